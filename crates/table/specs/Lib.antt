@@ -1,0 +1,5 @@
+pub mod Description
+pub mod Kinds
+pub mod Limits
+pub mod Loading
+pub mod Words
