@@ -1,2 +1,3 @@
 pub mod Causes
+pub mod Classes
 pub mod Statements

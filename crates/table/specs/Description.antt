@@ -22,6 +22,56 @@ pub record Description : Type 0 where
   pub maps : List Map
   pub rows : List Row
 
+-- record number n of a table, or `none`
+unfoldable pub entry : {A : Type 0} → List A → ℕ → A → A
+entry xs zero none = none
+entry xs (suc n) none = getD xs n none
+
+-- what stands for a record that is not there
+abbrev pub no-class : Class
+no-class =
+    record { kind = 0; base = 0; abstracted = 0; greatest = 0; width = 0; from = 0; to = 0; rank = 0; first = 0; number = 0 }
+
+abbrev pub no-name : Name
+no-name = record { owner = 0 }
+
+abbrev pub no-extension : Extension
+no-extension = record { class = 0; first = 0; number = 0 }
+
+abbrev pub no-line : Line
+no-line = record { kind = 0; a = 0; b = 0; c = 0; d = 0; e = 0; f = 0; g = 0 }
+
+abbrev pub no-node : Node
+no-node = record { op = 0; a = 0; b = 0 }
+
+abbrev pub no-map : Map
+no-map = record { width = 0; first = 0; number = 0 }
+
+abbrev pub no-row : Row
+no-row = record { index = 0; high = 0; low = 0 }
+
+-- the record of a number in each table
+abbrev pub class-at : Description → ℕ → Class
+class-at d n = entry (d .classes) n no-class
+
+abbrev pub name-at : Description → ℕ → Name
+name-at d n = entry (d .names) n no-name
+
+abbrev pub extension-at : Description → ℕ → Extension
+extension-at d n = entry (d .extensions) n no-extension
+
+abbrev pub line-at : Description → ℕ → Line
+line-at d n = entry (d .lines) n no-line
+
+abbrev pub node-at : Description → ℕ → Node
+node-at d n = entry (d .nodes) n no-node
+
+abbrev pub map-at : Description → ℕ → Map
+map-at d n = entry (d .maps) n no-map
+
+abbrev pub row-at : Description → ℕ → Row
+row-at d n = entry (d .rows) n no-row
+
 -- the description that is loaded
 abbrev pub description : Loaded → Description
 description l =
