@@ -2,5 +2,6 @@
 pub mod classes;
 pub mod counts;
 pub mod faults;
+pub mod messages;
 pub mod records;
 pub mod statements;

