@@ -7,7 +7,7 @@ use std::fs;
 use table::load::load;
 
 // Runs the cases of check.txt.
-pub fn run(rt: &LibcRuntime) -> Result<(), AnyError> {
+pub(crate) fn run(rt: &LibcRuntime) -> Result<(), AnyError> {
     let text = fs::read_to_string(rt, "check.txt")?;
     let mut cases = 0u32;
     let mut differ = 0u32;

@@ -20,7 +20,7 @@ fn byte(high: u8, low: u8) -> Option<u8> {
 }
 
 // The bytes that a text in hexadecimal writes; '-' is no byte.
-pub fn bytes_of(heap: Global, text: &str) -> Result<Vec<u8>, AnyError> {
+pub(crate) fn bytes_of(heap: Global, text: &str) -> Result<Vec<u8>, AnyError> {
     let mut bytes = Vec::new(heap);
     if text == "-" {
         return Ok(bytes);
