@@ -6,19 +6,19 @@ use std::error::AnyError;
 use std::fs;
 use table::load::load;
 
-// Runs the cases of check.txt.
-pub(crate) fn run(rt: &LibcRuntime) -> Result<(), AnyError> {
-    let text = fs::read_to_string(rt, "check.txt")?;
+// Runs the cases of a file, and prints which differ and how many there are.
+pub(crate) fn run(rt: &LibcRuntime, name: &str) -> Result<(), AnyError> {
+    let text = fs::read_to_string(rt, name)?;
     let mut cases = 0u32;
     let mut differ = 0u32;
     for line in text.as_str().lines() {
         cases = cases.saturating_add(1);
         if !agrees(rt, line)? {
             differ = differ.saturating_add(1);
-            println!(rt, "check.txt, case {cases} differs")?;
+            println!(rt, "{name}, case {cases} differs")?;
         }
     }
-    println!(rt, "check.txt: {cases} cases, {differ} differ")?;
+    println!(rt, "{name}: {cases} cases, {differ} differ")?;
     Ok(())
 }
 

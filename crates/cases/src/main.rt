@@ -5,5 +5,12 @@ mod hex;
 use std::error::AnyError;
 
 fn main(rt: LibcRuntime) -> Result<(), AnyError> {
-    rt.report(descriptions::run(&rt))
+    rt.report(run(&rt))
+}
+
+fn run(rt: &LibcRuntime) -> Result<(), AnyError> {
+    // answers that two independent models of the rules agree on
+    descriptions::run(rt, "check.txt")?;
+    // each table at its largest count, and with one record more
+    descriptions::run(rt, "limits.txt")
 }
