@@ -1,5 +1,7 @@
 // Description files, one a line in hexadecimal, each with the answer of the check: ok, or refused and three numbers.
 use crate::hex::bytes_of;
+use checked::checked::Checked;
+use records::faults::Fault;
 use std::alloc::AllocError;
 use std::alloc::Global;
 use std::error::AnyError;
@@ -27,12 +29,12 @@ fn agrees(rt: &LibcRuntime, line: &str) -> Result<bool, AnyError> {
     let (file, expected) = line.split_once(' ').ok_or("a case without an answer")?;
     let bytes = bytes_of(rt.alloc(), file)?;
     let answer = answer(rt.alloc(), bytes.as_slice())?;
-    Ok(answer.as_str() == loading(expected))
+    Ok(answer.as_str() == expected)
 }
 
 // What the check says of a file, as the cases write it.
 fn answer(heap: Global, bytes: &[u8]) -> Result<String, AllocError> {
-    match load(heap, bytes) {
+    match checked(heap, bytes) {
         Ok(_) => String::from_str(heap, "ok"),
         Err(fault) => {
             let number = fault.cause.number();
@@ -43,10 +45,7 @@ fn answer(heap: Global, bytes: &[u8]) -> Result<String, AllocError> {
     }
 }
 
-// What loading answers where the whole check would answer `expected`: a file with a fault above 4 loads.
-fn loading(expected: &str) -> &str {
-    match expected {
-        "refused 1 0 0" | "refused 2 0 0" | "refused 3 0 0" | "refused 4 0 0" => expected,
-        _ => "ok",
-    }
+// The checked description that a file holds, or its first fault.
+fn checked(heap: Global, bytes: &[u8]) -> Result<Checked, Fault> {
+    Checked::new(load(heap, bytes)?)
 }

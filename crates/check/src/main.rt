@@ -1,6 +1,8 @@
 // check: says whether a description file is accepted, or which rule it breaks first.
+use checked::checked::Checked;
 use records::faults::Fault;
 use records::messages::CauseDisplay;
+use std::alloc::Global;
 use std::env;
 use std::error::AnyError;
 use std::fs;
@@ -52,10 +54,15 @@ fn check(rt: &LibcRuntime, name: &str) -> Result<(), AnyError> {
             return Err("unreadable".into());
         }
     };
-    match load(rt.alloc(), bytes.as_slice()) {
-        Ok(loaded) => accept(rt, &loaded),
+    match checked(rt.alloc(), bytes.as_slice()) {
+        Ok(checked) => accept(rt, checked.tables()),
         Err(fault) => refuse(rt, fault),
     }
+}
+
+// The checked description that a file holds, or its first fault.
+fn checked(heap: Global, bytes: &[u8]) -> Result<Checked, Fault> {
+    Checked::new(load(heap, bytes)?)
 }
 
 fn accept(rt: &LibcRuntime, loaded: &Loaded) -> Result<(), AnyError> {

@@ -1,2 +1,3 @@
 mod Files
 mod Rows
+pub mod Scans

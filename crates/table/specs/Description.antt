@@ -1,8 +1,11 @@
 -- A description: the top class and seven tables of records, counted from 1; 0 says none. Look-ups are total.
 use mathlib.Core.List.{List}
 use Prim.Native.Nat.{ℕ, zero, suc}
-use lib.ListN.{getD}
+use lib.ListN.{length, getD}
 use Rattle.std.specs.Of.Vec.{vec-items}
+use Rattle.records.specs.Statements.{statement}
+use Rattle.records.specs.declared.counts.Counts.{Counts}
+use Rattle.records.specs.declared.statements.Statement.{Statement}
 use Rattle.records.specs.declared.records.Class.{Class}
 use Rattle.records.specs.declared.records.Name.{Name}
 use Rattle.records.specs.declared.records.Extension.{Extension}
@@ -71,6 +74,23 @@ map-at d n = entry (d .maps) n no-map
 
 abbrev pub row-at : Description → ℕ → Row
 row-at d n = entry (d .rows) n no-row
+
+-- a line with its fields by name
+unfoldable pub statement-at : Description → ℕ → Statement
+statement-at d n = statement (line-at d n)
+
+-- how many records each table has
+abbrev pub counts-of : Description → Counts
+counts-of d =
+    record {
+      classes = length (d .classes);
+      names = length (d .names);
+      extensions = length (d .extensions);
+      lines = length (d .lines);
+      nodes = length (d .nodes);
+      maps = length (d .maps);
+      rows = length (d .rows);
+    }
 
 -- the description that is loaded
 abbrev pub description : Loaded → Description

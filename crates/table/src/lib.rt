@@ -2,4 +2,5 @@
 pub mod kinds;
 pub mod load;
 pub mod loaded;
+pub mod looks;
 pub mod record;

@@ -1,18 +1,24 @@
 ghost use mathlib.Core.Path.{_≡_};
+ghost use mathlib.Core.Bool.{Bool};
 ghost use mathlib.Core.List.{List};
 ghost use Prim.Native.Nat.{ℕ, _+_, _*_, _≤_};
 ghost use lib.ListN.{length};
 ghost use Rattle.std.specs.Of.Vec.{vec-items, vec-len};
 ghost use Rattle.std.specs.Vec.{made};
+ghost use Rattle.records.specs.declared.counts.Counts.{Counts};
+ghost use Rattle.table.specs.Description.{entry};
+ghost use Rattle.table.specs.First.{first-upto};
+ghost use Rattle.table.specs.Fields.{broken-at};
 ghost use Rattle.table.specs.Words.{word-at, words-at, records-at};
+use records::counts::Counts;
 use std::alloc::AllocError;
 use std::alloc::Global;
 
 // The most fields that a record has.
 const MOST: usize = 10;
 
-// A kind of record: how many 16-bit numbers it has, and the record that they make.
-pub trait Record: Sized + Drop {
+// A kind of record: how many 16-bit numbers it has, the record that they make, and the rule for the fields of one record.
+pub trait Record: Copy + Drop {
     const FIELDS: usize;
 
     // how many numbers a record has
@@ -21,6 +27,12 @@ pub trait Record: Sized + Drop {
     // the record that these numbers make
     ghost decoded: { List ℕ → Self };
 
+    // what stands for a record that is not there
+    ghost none: { Self };
+
+    // whether record number n breaks the rule for its fields, by how many records each table has
+    ghost broken: { Counts → ℕ → Self → Bool };
+
     fn field_count() -> usize
         ensures value { λ r. ⌜ r ≡ width ⌝ }
         ensures bound { λ r. ⌜ r ≤ 10 ⌝ };
@@ -28,6 +40,12 @@ pub trait Record: Sized + Drop {
     fn from_fields(fields: &[u16]) -> Self
         requires { ⌜ length (now fields) ≡ width ⌝ }
         ensures { λ r. ⌜ r ≡ decoded (now (fields .entry)) ⌝ };
+
+    fn absent() -> Self
+        ensures { λ r. ⌜ r ≡ none ⌝ };
+
+    fn breaks(&self, counts: Counts, n: usize) -> bool
+        ensures { λ r. ⌜ r ≡ broken counts n (now (self .entry)) ⌝ };
 }
 
 // The 16-bit number at `at`, most significant byte first.
@@ -68,4 +86,27 @@ pub(crate) fn read_table<R: Record>(
         table.push(read_record(bytes, at + i * step))?;
     }
     Ok(table)
+}
+
+// Record number n of a table, or what stands for one that is not there.
+pub fn record_at<R: Record>(table: &[R], n: usize) -> R
+    ensures { λ r. ⌜ r ≡ entry (now (table .entry)) n none ⌝ }
+{
+    if n == 0 || n > table.len() {
+        R::absent()
+    } else {
+        table[n - 1]
+    }
+}
+
+// The first record of a table that breaks the rule for its fields, whatever the kind.
+pub fn first_broken<R: Record>(table: &[R], counts: Counts) -> Option<usize>
+    ensures { λ r. ⌜ r ≡ first-upto (broken-at (broken counts) none (now (table .entry))) (length (now (table .entry))) ⌝ }
+{
+    for i in 0..table.len() {
+        if table[i].breaks(counts, i + 1) {
+            return Some(i + 1);
+        }
+    }
+    None
 }

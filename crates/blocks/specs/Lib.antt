@@ -1,0 +1,4 @@
+pub mod Faults
+pub mod Nesting
+pub mod Sound
+pub mod Stretches

@@ -1,0 +1,4 @@
+pub mod Lines
+pub mod Nodes
+pub mod Tables
+pub mod Values

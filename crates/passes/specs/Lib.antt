@@ -1,0 +1,3 @@
+pub mod Families
+pub mod Naming
+pub mod Stretches

@@ -1,0 +1,4 @@
+pub mod Classes
+pub mod Faults
+pub mod Rows
+pub mod Uses
