@@ -1,0 +1,13 @@
+pub mod Heads
+pub mod Numbers
+pub mod Again
+pub mod Sizes
+pub mod Lines
+pub mod Lifted
+pub mod Begun
+pub mod Round
+pub mod Local
+pub mod Neatly
+pub mod Bridge
+pub mod Agree
+pub mod Trials

@@ -1,0 +1,6 @@
+pub mod Own
+pub mod Standing
+pub mod Writing
+pub mod Rule
+pub mod Least
+pub mod Trial

@@ -1,0 +1,5 @@
+use Rattle.rules.proofs.Fines.{faults-known}
+use Rattle.rules.proofs.laws.faults_known.Needs as need
+
+pub returns : need.returns
+returns c = faults-known

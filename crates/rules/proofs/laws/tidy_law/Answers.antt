@@ -1,0 +1,5 @@
+use Rattle.rules.proofs.Tidily.{tidy-law}
+use Rattle.rules.proofs.laws.tidy_law.Needs as need
+
+pub returns : need.returns
+returns c = tidy-law

@@ -1,0 +1,15 @@
+pub mod Numbers
+pub mod Terms
+pub mod Trace
+pub mod Checks
+pub mod Lookups
+pub mod Values
+pub mod Code
+pub mod Steps
+pub mod Reading
+pub mod Tidy
+pub mod Sample
+pub mod Passed
+pub mod Growth
+pub mod Ranks
+pub mod Order

@@ -1,0 +1,3 @@
+// Evaluation of nodes.
+pub mod evaluate;
+pub mod operators;
