@@ -15,7 +15,7 @@ use Rattle.std.specs.declared.result.Result.the-variants.{Ok, Err}
 use Rattle.records.specs.declared.records.Class.{Class}
 use Rattle.rules.specs.Checks.{Check, then, fails, ensure, pick}
 use Rattle.records.specs.Classes.{is-base}
-use Rattle.bits.specs.Bits.{number, part}
+use Rattle.bits.specs.Bits.{number, part, bits-of, length-bits-of}
 use Rattle.rules.specs.declared.lines.ReadLine.{ReadLine}
 use Rattle.rules.specs.declared.lines.UseLine.{UseLine}
 use Rattle.rules.specs.declared.steps.Window.{Window}
@@ -23,10 +23,10 @@ use Rattle.rules.specs.declared.steps.Got.{Got}
 use Rattle.rules.specs.declared.steps.Header.{Header}
 use Rattle.rules.specs.Steps.{enough, next-multiple, aligned, taken, natural, signed, at-least, at-most, element, mapped, size-bytes, sized, header}
 use Rattle.rules.specs.Values.{same}
-use Rattle.roundtrip.specs.Own.{binary, complement, size-code, gives-value, first-such, lowest-index, size-bits, header-bits}
+use Rattle.roundtrip.specs.Own.{complement, size-code, gives-value, first-such, lowest-index, size-bits, header-bits}
 use Rattle.rules.specs.Steps.{id-width}
 use Rattle.roundtrip.specs.Standing.{Zeros, Has}
-use Rattle.roundtrip.proofs.Numbers.{true-of, false-of, of-true, both, with-both, decide, length-binary, number-binary, number-bound, part-bound, has-part, has-append, zeros-number, complement-value, same-eq, same-refl, multiple-above}
+use Rattle.roundtrip.proofs.Numbers.{true-of, false-of, of-true, both, with-both, decide, number-of-bits, number-bound, part-bound, has-part, has-append, zeros-number, complement-value, same-eq, same-refl, multiple-above}
 
 pub record Via {A B : Type 0} (c : Check A) (k : A → Check B) (b : B) : Type 0 where
   pub mid : A
@@ -111,13 +111,13 @@ module _ (w : Window) (n p : ℕ) where
       let b = part-bound B p n in
       (l, omega arith)
 
-  pub taken-has : (B : List Bool) (k : ℕ) → p + n ≤ w .end → w .end ≤ length B → k < 2 ^ n → Has B p (binary n k) → taken B w n p ≡ Ok k
+  pub taken-has : (B : List Bool) (k : ℕ) → p + n ≤ w .end → w .end ≤ length B → k < 2 ^ n → Has B p (bits-of n k) → taken B w n p ≡ Ok k
   unfolding taken
   taken-has B k l m b h =
-      let e = length-binary n k in
-      let x : part B p n ≡ binary n k = subst (λ z. part B p z ≡ binary n k) e (has-part B p (binary n k) (omega arith) h) in
+      let e = length-bits-of n k in
+      let x : part B p n ≡ bits-of n k = subst (λ z. part B p z ≡ bits-of n k) e (has-part B p (bits-of n k) (omega arith) h) in
       then-to _ _ tt (to-ensure _ _ (le→leb (p + n) (w .end) l)) ∙
-      ap (λ y. Ok y) (ap number x ∙ number-binary n k b)
+      ap (λ y. Ok y) (ap number x ∙ number-of-bits n k b)
 
 -- one element of a read
 pub record Element-again (w : Window) (l : ReadLine) (width low high : Check ℤ) (p : ℕ) (g : Got) : Type 0 where
@@ -126,7 +126,7 @@ pub record Element-again (w : Window) (l : ReadLine) (width low high : Check ℤ
   pub within : g .after ≤ w .end
   pub short : g .length ≤ 32
   pub fits : complement (g .length) (g .value) < 2 ^ g .length
-  pub again : (B : List Bool) → w .end ≤ length B → Zeros B p (g .place) → Has B (g .place) (binary (g .length) (complement (g .length) (g .value))) →
+  pub again : (B : List Bool) → w .end ≤ length B → Zeros B p (g .place) → Has B (g .place) (bits-of (g .length) (complement (g .length) (g .value))) →
       element B w l width low high p ≡ Ok g
 
 natural-bound : (most n : ℕ) (v : Check ℤ) → natural most v ≡ Ok n → n ≤ most
@@ -172,7 +172,7 @@ element-again w l width low high p g B straight e =
           again = λ B′ m z h.
               then-to _ _ _ (aligned-again w (l .alignment) p q B B′ al z) ∙
               then-to _ _ _ wi ∙
-              then-to _ _ _ (taken-has w n q B′ raw (t .0) m (t .1) (subst (λ k. Has B′ q (binary n k)) (complement-value n raw (l .signed) (t .1)) h)) ∙
+              then-to _ _ _ (taken-has w n q B′ raw (t .0) m (t .1) (subst (λ k. Has B′ q (bits-of n k)) (complement-value n raw (l .signed) (t .1)) h)) ∙
               then-to _ _ _ lo ∙
               then-to _ _ _ hi;
         }
@@ -213,7 +213,7 @@ pub record Mapped-again (w : Window) (width : ℕ) (outputs : ℕ → Check ℤ)
   pub after : g .after ≡ p + width
   pub within : g .after ≤ w .end
   pub fits : lowest-index width outputs (g .value) < 2 ^ width
-  pub again : (B : List Bool) → w .end ≤ length B → Has B p (binary width (lowest-index width outputs (g .value))) → mapped B w width outputs p ≡ Ok g
+  pub again : (B : List Bool) → w .end ≤ length B → Has B p (bits-of width (lowest-index width outputs (g .value))) → mapped B w width outputs p ≡ Ok g
 
 pub mapped-again : (w : Window) (width : ℕ) (outputs : ℕ → Check ℤ) (p : ℕ) (g : Got) (B : List Bool) →
     mapped B w width outputs p ≡ Ok g → Mapped-again w width outputs p g

@@ -15,7 +15,7 @@ use Rattle.std.specs.declared.result.Result.the-variants.{Ok, Err}
 use Rattle.records.specs.declared.records.Class.{Class}
 use Rattle.rules.specs.Checks.{Check, then, fails, ensure, pick}
 use Rattle.records.specs.Classes.{is-base}
-use Rattle.bits.specs.Bits.{number, part}
+use Rattle.bits.specs.Bits.{number, part, bits-of, length-bits-of}
 use Rattle.rules.specs.declared.lines.ReadLine.{ReadLine}
 use Rattle.rules.specs.declared.lines.UseLine.{UseLine}
 use Rattle.rules.specs.declared.steps.Window.{Window}
@@ -23,10 +23,10 @@ use Rattle.rules.specs.declared.steps.Got.{Got}
 use Rattle.rules.specs.declared.steps.Header.{Header}
 use Rattle.rules.specs.Steps.{enough, next-multiple, aligned, taken, natural, signed, at-least, at-most, element, mapped, size-bytes, sized, header}
 use Rattle.rules.specs.Values.{same}
-use Rattle.roundtrip.specs.Own.{binary, complement, size-code, gives-value, first-such, lowest-index, size-bits, header-bits}
+use Rattle.roundtrip.specs.Own.{complement, size-code, gives-value, first-such, lowest-index, size-bits, header-bits}
 use Rattle.rules.specs.Steps.{id-width}
 use Rattle.roundtrip.specs.Standing.{Zeros, Has}
-use Rattle.roundtrip.proofs.Numbers.{true-of, false-of, of-true, both, with-both, decide, length-binary, number-binary, number-bound, part-bound, has-part, has-append, zeros-number, complement-value, same-eq, same-refl, multiple-above}
+use Rattle.roundtrip.proofs.Numbers.{true-of, false-of, of-true, both, with-both, decide, number-of-bits, number-bound, part-bound, has-part, has-append, zeros-number, complement-value, same-eq, same-refl, multiple-above}
 use lib.Seq.{drop-cons}
 use Rattle.roundtrip.specs.Least.{Agree, Least, Looks}
 use Rattle.roundtrip.proofs.Again.{then-ok, then-to, ensure-ok, to-ensure, via, ok-same, aligned-is, aligned-facts, taken-facts, lowest-finds}

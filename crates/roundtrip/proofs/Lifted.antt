@@ -20,7 +20,7 @@ use Rattle.rules.specs.Checks.{Check, then, ensure, pick, attempt, fault}
 use Rattle.table.specs.Description.{Description, class-at, line-at, map-at}
 use Rattle.rules.specs.Lookups.{greatest, object-class, map-output}
 use Rattle.rules.specs.Values.{Names, value, is-zero}
-use Rattle.bits.specs.Bits.{number, part}
+use Rattle.bits.specs.Bits.{number, part, bits-of, length-bits-of}
 use Rattle.rules.specs.declared.steps.Window.{Window}
 use Rattle.rules.specs.declared.steps.Got.{Got}
 use Rattle.rules.specs.declared.steps.Header.{Header}
@@ -33,13 +33,13 @@ use Rattle.rules.specs.declared.lines.UseLine.{UseLine}
 use Rattle.rules.specs.Code.{Code, finish, read, assign, map-read, use-of, branch, while, code}
 use Rattle.rules.specs.Reading.{State, Object, Objects, write, all-zero, moved, after-read, after-object, value-item, open-item, close-item, valued, counted, elements, objects, enough-objects, objects-to-end, used, rounds, run, stretch, extensions, content, inner, closed}
 use Rattle.rules.specs.Tidy.{closable, opened-by, object-by, reading-by}
-use Rattle.roundtrip.specs.Own.{binary, complement, lowest-index, value-bits, header-bits, own-bits, end-of, Sensible, Sensible-value}
+use Rattle.roundtrip.specs.Own.{complement, lowest-index, value-bits, header-bits, own-bits, end-of, Sensible, Sensible-value}
 use Rattle.rules.specs.Order.{declared-at}
 use Rattle.rules.specs.Steps.{id-width}
 use Rattle.roundtrip.specs.Standing.{Head, gives, halts, ends, head, Halted, Fam, Zeros, Has, Fits, Stands, stuck, quiet, hands}
 use Rattle.roundtrip.specs.Writing.{Straight, Standing-law}
 use Rattle.roundtrip.proofs.Heads.{stands-bind, stands-pass, stands-done, stands-attempt, stands-pick, stands-same}
-use Rattle.roundtrip.proofs.Numbers.{true-of, false-of, of-true, both, with-both, decide, length-binary, zeros-number, multiple-above}
+use Rattle.roundtrip.proofs.Numbers.{true-of, false-of, of-true, both, with-both, decide, zeros-number, multiple-above}
 use Rattle.roundtrip.proofs.Again.{then-ok, then-to, ensure-ok, to-ensure, via, ok-same, aligned-is, aligned-zeros, Element-again, element-again, Mapped-again, mapped-again}
 use Rattle.roundtrip.proofs.Sizes.{Header-again, header-again}
 use Rattle.roundtrip.proofs.Lines.{Tells, code-tells}
@@ -137,12 +137,12 @@ module _ (d : Description) (L : ℕ) where
 
   -- own bits of the items of lines
   pub read-own : (o : Object) (line index : ℕ) (l : ReadLine) (g : Got) → statement (line-at d line) ≡ reads l →
-      own-bits d (value-item o line index g) ≡ binary (g .length) (complement (g .length) (g .value))
+      own-bits d (value-item o line index g) ≡ bits-of (g .length) (complement (g .length) (g .value))
   unfolding value-bits
   read-own o line index l g e = ap (λ st. value-bits d st (g .value) (g .length)) e
 
   pub map-own : (o : Object) (line index m name : ℕ) (g : Got) → statement (line-at d line) ≡ MapRead m name →
-      own-bits d (value-item o line index g) ≡ binary (map-at d m .width) (lowest-index (map-at d m .width) (map-output d m) (g .value))
+      own-bits d (value-item o line index g) ≡ bits-of (map-at d m .width) (lowest-index (map-at d m .width) (map-output d m) (g .value))
   unfolding value-bits
   map-own o line index m name g e = ap (λ st. value-bits d st (g .value) (g .length)) e
 
@@ -171,7 +171,7 @@ module _ (d : Description) (L : ℕ) where
         λ B g len e.
         let a = element-again (o .window) l _ _ _ (s .place) g B (ok .0) e in
         let own = read-own o line index l g (ok .1) in
-        let long = ap length own ∙ length-binary (g .length) (complement (g .length) (g .value)) in
+        let long = ap length own ∙ length-bits-of (g .length) (complement (g .length) (g .value)) in
         let to : g .after ≡ end-of d (value-item o line index g) = omega (arith, a .after) in
         record {
           ahead = a .ahead;
@@ -256,14 +256,14 @@ module _ (d : Description) (L : ℕ) where
           λ B g len e.
           let a = mapped-again (o .window) _ _ (s .place) g B e in
           let own = map-own o line 0 m name g (ok .0) in
-          let long = ap length own ∙ length-binary (map-at d m .width) _ in
+          let long = ap length own ∙ length-bits-of (map-at d m .width) _ in
           let to : g .after ≡ end-of d (value-item o line 0 g) = omega (arith, a .after, a .place) in
           record {
             ahead = omega (arith, a .place);
             within = omega (arith, a .within);
             sensible = map-sensible o line 0 m name g (ok .0) (a .fits);
             again = λ B′ len′ f.
-                attempt-to line (s .place) _ _ g (a .again B′ (omega arith) (subst (λ p. Has B′ p (binary (map-at d m .width) (lowest-index (map-at d m .width) (map-output d m) (g .value)))) (a .place) (subst (Has B′ (g .place)) own (f .1)))) ∙
+                attempt-to line (s .place) _ _ g (a .again B′ (omega arith) (subst (λ p. Has B′ p (bits-of (map-at d m .width) (lowest-index (map-at d m .width) (map-output d m) (g .value)))) (a .place) (subst (Has B′ (g .place)) own (f .1)))) ∙
                 ap (λ q. out (value-item o line 0 g) (run d B′ (obj B′) o c (record { place = q; names = write name (g .value) (s .names) }))) to;
             rest = stands-run c (ok .1) _ (omega (arith, a .within));
           }

@@ -23,7 +23,7 @@ use Rattle.rules.specs.Checks.{Check, then, ensure, pick, attempt, fault}
 use Rattle.table.specs.Description.{Description, class-at, line-at, map-at}
 use Rattle.rules.specs.Lookups.{greatest, object-class, map-output}
 use Rattle.rules.specs.Values.{Names, value, is-zero}
-use Rattle.bits.specs.Bits.{bit-value, number, part}
+use Rattle.bits.specs.Bits.{bit-value, number, part, bits-of, length-bits-of}
 use Rattle.rules.specs.declared.steps.Window.{Window}
 use Rattle.rules.specs.declared.steps.Got.{Got}
 use Rattle.rules.specs.declared.steps.Header.{Header}
@@ -36,14 +36,14 @@ use Rattle.rules.specs.declared.lines.UseLine.{UseLine}
 use Rattle.rules.specs.Code.{Code, finish, read, assign, map-read, use-of, branch, while, code}
 use Rattle.rules.specs.Reading.{State, Object, Objects, write, all-zero, moved, after-read, after-object, value-item, open-item, close-item, valued, counted, elements, objects, enough-objects, objects-to-end, used, rounds, run, stretch, extensions, content, inner, closed}
 use Rattle.rules.specs.Tidy.{closable, opened-by, object-by, reading-by}
-use Rattle.roundtrip.specs.Own.{binary, complement, lowest-index, value-bits, header-bits, own-bits, end-of}
+use Rattle.roundtrip.specs.Own.{complement, lowest-index, value-bits, header-bits, own-bits, end-of}
 use Rattle.rules.specs.Order.{declared-at}
 use Rattle.rules.specs.Steps.{id-width}
 use Rattle.roundtrip.specs.Standing.{Zeros, Has, Fits}
 use Rattle.roundtrip.specs.Writing.{Straight}
 use Rattle.roundtrip.specs.Rule.{Closes, Neat}
 use Rattle.rules.specs.Order.{Bytes}
-use Rattle.roundtrip.proofs.Numbers.{true-of, false-of, of-true, both, with-both, decide, length-binary, zeros-number, multiple-above}
+use Rattle.roundtrip.proofs.Numbers.{true-of, false-of, of-true, both, with-both, decide, zeros-number, multiple-above}
 use Rattle.roundtrip.proofs.Again.{then-ok, then-to, ensure-ok, to-ensure, via, ok-same, aligned-is, aligned-facts, taken-facts, Element-again, element-again, Mapped-again, mapped-again}
 use Rattle.roundtrip.proofs.Sizes.{Header-again, header-again, byte-cases, never}
 use Rattle.roundtrip.proofs.Lifted.{read-own, map-own, inner-facts, closed-facts}
@@ -185,7 +185,7 @@ module _ (d : Description) (B : List Bool) where
         tidied-attempt line (s .place) _ _ _ λ g e.
         let a = element-again (o .window) l _ _ _ (s .place) g B (ok .0) e in
         let own = read-own d 0 o line index l g (ok .1) in
-        let long = ap length own ∙ length-binary (g .length) (complement (g .length) (g .value)) in
+        let long = ap length own ∙ length-bits-of (g .length) (complement (g .length) (g .value)) in
         shown (neat-value o line index g p named) (λ f. omega (arith, a .after)) (tidied-elements line l ok n (suc index) (after-read (l .name) g s) (g .after) (a .within) (here refl))
 
     module _ (tidy plain : Objects)
@@ -241,7 +241,7 @@ module _ (d : Description) (B : List Bool) where
           tidied-attempt line (s .place) _ _ _ λ g e.
           let a = mapped-again (o .window) _ _ (s .place) g B e in
           let own = map-own d 0 o line 0 m name g (ok .0) in
-          let long = ap length own ∙ length-binary (map-at d m .width) _ in
+          let long = ap length own ∙ length-bits-of (map-at d m .width) _ in
           shown (neat-value o line 0 g p named) (λ f. omega (arith, a .after, a .place)) (tidied-run c (ok .1) (after-read name g s) (g .after) (a .within) (here refl))
       tidied-run (use-of line l c) ok s p h i =
           tidied-bind _ _ (λ t p m i. tidied-run c (ok .1) t p m i) (tidied-used line l (ok .0) (l .count) s p h i)

@@ -5,17 +5,18 @@ use mathlib.Core.List.{List, [], _∷_, _++_}
 use mathlib.Core.Logic.{_⊎_, inl, inr}
 use Prim.Native.Nat.{ℕ, zero, suc, _+_, _-_, _*_, _/_, _%_, _^_, _≤_, _<_}
 use native.Mathlib.Omega.{arith}
-use native.Mathlib.Nat.{mod-lt, div-add-mod'}
+use native.Mathlib.Nat.{mod-eq-of-lt, mod-lt, div-add-mod'}
 use lib.Dec.{T, leb, ltb, eqb, leb→le, le→leb, nleb→lt, ltb→lt, lt→ltb, nltb→le, eqb→eq, eqb-refl, eqb·suc-zero}
 use lib.IntN.{ℤ, pos, negsuc, _-ℤ_, subℕ}
 use lib.ListN.{length, take, drop, getD, length-append, length-take, drop-of-length-le}
 use lib.Pow.{pow-pos, pow-mono}
 use lib.Seq.{drop-cons, drop-nil, take-nil}
 use lib.Signed.{leZ}
-use Rattle.bits.specs.Bits.{bit-value, number, part}
+use Rattle.bits.proofs.Numbers.{number-bits-of}
+use Rattle.bits.specs.Bits.{bits-of, bit-value, number, part}
 use Rattle.rules.specs.Steps.{signed, next-multiple}
 use Rattle.rules.specs.Values.{same}
-use Rattle.roundtrip.specs.Own.{binary, complement}
+use Rattle.roundtrip.specs.Own.{complement}
 use Rattle.roundtrip.specs.Standing.{Zeros, Has}
 
 pub true-of : (b : Bool) → T b → b ≡ true
@@ -46,23 +47,8 @@ decide false x y = y tt
 pub pow-suc : (n : ℕ) → 2 ^ suc n ≡ 2 ^ n + 2 ^ n
 pow-suc n = omega arith
 
-pub length-binary : (n k : ℕ) → length (binary n k) ≡ n
-unfolding binary
-length-binary zero k = refl
-length-binary (suc n) k = ap suc (length-binary n _)
-
-pub number-binary : (n k : ℕ) → k < 2 ^ n → number (binary n k) ≡ k
-unfolding binary number
-number-binary zero k h = omega arith
-number-binary (suc n) k h =
-    let p = pow-suc n in
-    decide (leb (2 ^ n) k)
-    (λ t. let l = leb→le (2 ^ n) k t in let e = length-binary n (k - 2 ^ n) in let m = number-binary n (k - 2 ^ n) (omega arith) in
-    (λ i. bit-value (true-of (leb (2 ^ n) k) t i) * 2 ^ length (binary n (cond (true-of (leb (2 ^ n) k) t i) (k - 2 ^ n) k)) + number (binary n (cond (true-of (leb (2 ^ n) k) t i) (k - 2 ^ n) k))) ∙
-    (λ i. 1 * 2 ^ e i + m i) ∙ omega arith)
-    (λ t. let l = nleb→lt (2 ^ n) k t in let m = number-binary n k l in
-    (λ i. bit-value (false-of (leb (2 ^ n) k) t i) * 2 ^ length (binary n (cond (false-of (leb (2 ^ n) k) t i) (k - 2 ^ n) k)) + number (binary n (cond (false-of (leb (2 ^ n) k) t i) (k - 2 ^ n) k))) ∙
-    omega arith)
+pub number-of-bits : (n k : ℕ) → k < 2 ^ n → number (bits-of n k) ≡ k
+number-of-bits n k h = number-bits-of n k ∙ mod-eq-of-lt h
 
 pub number-bound : (xs : List Bool) → number xs < 2 ^ length xs
 unfolding number

@@ -12,24 +12,24 @@ use Rattle.std.specs.declared.result.Result.the-variants.{Ok, Err}
 use Rattle.records.specs.declared.records.Class.{Class}
 use Rattle.rules.specs.Checks.{Check, then, fails, ensure, pick}
 use Rattle.records.specs.Classes.{is-base}
-use Rattle.bits.specs.Bits.{number, part}
+use Rattle.bits.specs.Bits.{number, part, bits-of, length-bits-of}
 use Rattle.rules.specs.declared.steps.Window.{Window}
 use Rattle.rules.specs.declared.steps.Got.{Got}
 use Rattle.rules.specs.declared.steps.Header.{Header}
 use Rattle.rules.specs.Steps.{enough, next-multiple, aligned, taken, natural, signed, at-least, at-most, element, mapped, size-bytes, sized, header}
 use Rattle.rules.specs.Values.{same}
-use Rattle.roundtrip.specs.Own.{binary, complement, size-code, gives-value, first-such, lowest-index, size-bits, header-bits}
+use Rattle.roundtrip.specs.Own.{complement, size-code, gives-value, first-such, lowest-index, size-bits, header-bits}
 use Rattle.rules.specs.Steps.{id-width}
 use Rattle.roundtrip.specs.Standing.{Zeros, Has}
-use Rattle.roundtrip.proofs.Numbers.{true-of, false-of, of-true, both, with-both, decide, length-binary, number-binary, number-bound, part-bound, has-part, has-append, zeros-number, complement-value, same-eq, same-refl, multiple-above}
+use Rattle.roundtrip.proofs.Numbers.{true-of, false-of, of-true, both, with-both, decide, number-of-bits, number-bound, part-bound, has-part, has-append, zeros-number, complement-value, same-eq, same-refl, multiple-above}
 use Rattle.roundtrip.proofs.Again.{Via, then-ok, then-to, ensure-ok, to-ensure, via, ok-same, Aligned, aligned-facts, aligned-again, taken-facts, taken-has}
 
 -- the forms of a size
 data Code-of (s : ℕ) : List Bool → Type 0 where
-  one : s < 128 → Code-of s (binary 8 s)
-  two : 128 ≤ s → s < 16384 → Code-of s (binary 8 (128 + s / 128) ++ binary 8 (s % 128))
-  three : 16384 ≤ s → s < 2097152 → Code-of s (binary 8 (128 + s / 16384) ++ (binary 8 (128 + s / 128 % 128) ++ binary 8 (s % 128)))
-  four : 2097152 ≤ s → Code-of s (binary 8 (128 + s / 2097152) ++ (binary 8 (128 + s / 16384 % 128) ++ (binary 8 (128 + s / 128 % 128) ++ binary 8 (s % 128))))
+  one : s < 128 → Code-of s (bits-of 8 s)
+  two : 128 ≤ s → s < 16384 → Code-of s (bits-of 8 (128 + s / 128) ++ bits-of 8 (s % 128))
+  three : 16384 ≤ s → s < 2097152 → Code-of s (bits-of 8 (128 + s / 16384) ++ (bits-of 8 (128 + s / 128 % 128) ++ bits-of 8 (s % 128)))
+  four : 2097152 ≤ s → Code-of s (bits-of 8 (128 + s / 2097152) ++ (bits-of 8 (128 + s / 16384 % 128) ++ (bits-of 8 (128 + s / 128 % 128) ++ bits-of 8 (s % 128))))
 
 pick-is : {A : Type 0} (P : A → Type 0) (b : Bool) (x y : Unit {0} → A) → (T b → P (x tt)) → (T (not b) → P (y tt)) → P (pick b x y)
 pick-is P true x y f g = f tt
@@ -44,8 +44,8 @@ code-of s =
     four (nltb→le s 2097152 v)
 
 -- lengths
-length-bytes : (a : ℕ) (xs : List Bool) → length (binary 8 a ++ xs) ≡ 8 + length xs
-length-bytes a xs = length-append (binary 8 a) xs ∙ ap (λ n. n + length xs) (length-binary 8 a)
+length-bytes : (a : ℕ) (xs : List Bool) → length (bits-of 8 a ++ xs) ≡ 8 + length xs
+length-bytes a xs = length-append (bits-of 8 a) xs ∙ ap (λ n. n + length xs) (length-bits-of 8 a)
 
 -- one byte of a size
 module _ (B : List Bool) (w : Window) where
@@ -85,14 +85,14 @@ module _ (B : List Bool) (w : Window) where
   pub record Next (m high q k : ℕ) (xs : List Bool) : Type 0 where
     pub goes : size-bytes B w (suc m) high q ≡ size-bytes B w m (high * 128 + k) (q + 8)
     pub has : Has B (q + 8) xs
-    pub long : length (binary 8 (128 + k) ++ xs) ≡ 8 + length xs
+    pub long : length (bits-of 8 (128 + k) ++ xs) ≡ 8 + length xs
 
-  next : (m high q k : ℕ) (xs : List Bool) → q + length (binary 8 (128 + k) ++ xs) ≤ w .end → w .end ≤ length B → k < 128 →
-      Has B q (binary 8 (128 + k) ++ xs) → Next m high q k xs
+  next : (m high q k : ℕ) (xs : List Bool) → q + length (bits-of 8 (128 + k) ++ xs) ≤ w .end → w .end ≤ length B → k < 128 →
+      Has B q (bits-of 8 (128 + k) ++ xs) → Next m high q k xs
   next m high q k xs l le b h =
-      let x = has-append B q (binary 8 (128 + k)) xs h in
+      let x = has-append B q (bits-of 8 (128 + k)) xs h in
       let a = length-bytes (128 + k) xs in
-      let f = length-binary 8 (128 + k) in
+      let f = length-bits-of 8 (128 + k) in
       let e : (128 + k) % 128 ≡ k = omega arith in
       record {
         goes = more-bytes m high q (128 + k) (taken-has w 8 q B (128 + k) (omega arith) le (omega arith) (x .0)) (omega arith) ∙ ap (λ z. size-bytes B w m (high * 128 + z) (q + 8)) e;
@@ -108,18 +108,18 @@ pub record Size-read (w : Window) (p : ℕ) (s q : ℕ) : Type 0 where
 
 module _ (w : Window) (p : ℕ) where
   size-length : (s : ℕ) (xs : List Bool) → Code-of s xs → (s < 128 → length xs ≤ 8) × (s < 16384 → length xs ≤ 16) × (s < 2097152 → length xs ≤ 24) × (length xs ≤ 32)
-  size-length s xs (one h) = let e = length-binary 8 s in (λ z. omega arith, λ z. omega arith, λ z. omega arith, omega arith)
+  size-length s xs (one h) = let e = length-bits-of 8 s in (λ z. omega arith, λ z. omega arith, λ z. omega arith, omega arith)
   size-length s xs (two h k) =
-      let a = length-bytes (128 + s / 128) (binary 8 (s % 128)) in let e = length-binary 8 (s % 128) in
+      let a = length-bytes (128 + s / 128) (bits-of 8 (s % 128)) in let e = length-bits-of 8 (s % 128) in
       (λ z. omega arith, λ z. omega arith, λ z. omega arith, omega arith)
   size-length s xs (three h k) =
-      let a = length-bytes (128 + s / 16384) (binary 8 (128 + s / 128 % 128) ++ binary 8 (s % 128)) in
-      let b = length-bytes (128 + s / 128 % 128) (binary 8 (s % 128)) in let e = length-binary 8 (s % 128) in
+      let a = length-bytes (128 + s / 16384) (bits-of 8 (128 + s / 128 % 128) ++ bits-of 8 (s % 128)) in
+      let b = length-bytes (128 + s / 128 % 128) (bits-of 8 (s % 128)) in let e = length-bits-of 8 (s % 128) in
       (λ z. omega arith, λ z. omega arith, λ z. omega arith, omega arith)
   size-length s xs (four h) =
-      let a = length-bytes (128 + s / 2097152) (binary 8 (128 + s / 16384 % 128) ++ (binary 8 (128 + s / 128 % 128) ++ binary 8 (s % 128))) in
-      let f = length-bytes (128 + s / 16384 % 128) (binary 8 (128 + s / 128 % 128) ++ binary 8 (s % 128)) in
-      let b = length-bytes (128 + s / 128 % 128) (binary 8 (s % 128)) in let e = length-binary 8 (s % 128) in
+      let a = length-bytes (128 + s / 2097152) (bits-of 8 (128 + s / 16384 % 128) ++ (bits-of 8 (128 + s / 128 % 128) ++ bits-of 8 (s % 128))) in
+      let f = length-bytes (128 + s / 16384 % 128) (bits-of 8 (128 + s / 128 % 128) ++ bits-of 8 (s % 128)) in
+      let b = length-bytes (128 + s / 128 % 128) (bits-of 8 (s % 128)) in let e = length-bits-of 8 (s % 128) in
       (λ z. omega arith, λ z. omega arith, λ z. omega arith, omega arith)
 
   pub size-read : (B : List Bool) (r : ℕ × ℕ) → size-bytes B w 4 0 p ≡ Ok r → Size-read w p (r .0) (r .1)
@@ -140,10 +140,10 @@ module _ (w : Window) (p : ℕ) where
       size-bytes B w 4 0 p ≡ Ok (s, p + length (size-code s))
   size-again B s small l m h = go (size-code s) (code-of s) l h
     where
-      last : (n high q k t : ℕ) → q + length (binary 8 k) ≤ w .end → k < 128 → Has B q (binary 8 k) → high * 128 + k ≡ s → q + length (binary 8 k) ≡ t →
+      last : (n high q k t : ℕ) → q + length (bits-of 8 k) ≤ w .end → k < 128 → Has B q (bits-of 8 k) → high * 128 + k ≡ s → q + length (bits-of 8 k) ≡ t →
           size-bytes B w (suc n) high q ≡ Ok (s, t)
       last n high q k t l b has es et =
-          let e = length-binary 8 k in
+          let e = length-bits-of 8 k in
           let et′ : q + 8 ≡ t = omega arith in
           last-byte B w n high q k (taken-has w 8 q B k (omega arith) m (omega arith) has) b ∙ (λ i. Ok (es i, et′ i))
 
@@ -154,12 +154,12 @@ module _ (w : Window) (p : ℕ) where
           n₁ .goes ∙ last 2 _ (p + 8) (s % 128) _ (omega (arith, n₁ .long)) (omega arith) (n₁ .has) (omega arith) (omega (arith, n₁ .long))
       go xs (three h k) l has =
           let n₁ = next B w 3 0 p (s / 16384) _ l m (omega arith) has in
-          let n₂ = next B w 2 (0 * 128 + s / 16384) (p + 8) (s / 128 % 128) (binary 8 (s % 128)) (omega (arith, n₁ .long)) m (omega arith) (n₁ .has) in
+          let n₂ = next B w 2 (0 * 128 + s / 16384) (p + 8) (s / 128 % 128) (bits-of 8 (s % 128)) (omega (arith, n₁ .long)) m (omega arith) (n₁ .has) in
           n₁ .goes ∙ n₂ .goes ∙ last 1 _ (p + 8 + 8) (s % 128) _ (omega (arith, n₁ .long, n₂ .long)) (omega arith) (n₂ .has) (omega arith) (omega (arith, n₁ .long, n₂ .long))
       go xs (four h) l has =
           let n₁ = next B w 3 0 p (s / 2097152) _ l m (omega arith) has in
           let n₂ = next B w 2 (0 * 128 + s / 2097152) (p + 8) (s / 16384 % 128) _ (omega (arith, n₁ .long)) m (omega arith) (n₁ .has) in
-          let n₃ = next B w 1 _ (p + 8 + 8) (s / 128 % 128) (binary 8 (s % 128)) (omega (arith, n₁ .long, n₂ .long)) m (omega arith) (n₂ .has) in
+          let n₃ = next B w 1 _ (p + 8 + 8) (s / 128 % 128) (bits-of 8 (s % 128)) (omega (arith, n₁ .long, n₂ .long)) m (omega arith) (n₂ .has) in
           n₁ .goes ∙ n₂ .goes ∙ n₃ .goes ∙
           last 0 _ (p + 8 + 8 + 8) (s % 128) _ (omega (arith, n₁ .long, n₂ .long, n₃ .long)) (omega arith) (n₃ .has) (omega arith) (omega (arith, n₁ .long, n₂ .long, n₃ .long))
 
@@ -222,16 +222,16 @@ header-again w c greatest p h B e =
         let a = aligned-facts w _ p q B al in
         let t = taken-facts w (id-width c) q B id ta in
         let z = sized-again w greatest (q + id-width c) s B (t .0) si in
-        let e₁ = length-append (binary (id-width c) id) (size-bits greatest (s .0)) in
-        let e₂ = length-binary (id-width c) id in
-        let e₃ : q + id-width c + length (size-bits greatest (s .0)) ≡ q + length (binary (id-width c) id ++ size-bits greatest (s .0)) = omega arith in
+        let e₁ = length-append (bits-of (id-width c) id) (size-bits greatest (s .0)) in
+        let e₂ = length-bits-of (id-width c) id in
+        let e₃ : q + id-width c + length (size-bits greatest (s .0)) ≡ q + length (bits-of (id-width c) id ++ size-bits greatest (s .0)) = omega arith in
         record {
           ahead = a .ahead;
           fits = t .1;
           small = z .small;
           within = omega (arith, z .within);
           again = λ B′ m ze ha.
-              let x = has-append B′ q (binary (id-width c) id) (size-bits greatest (s .0)) ha in
+              let x = has-append B′ q (bits-of (id-width c) id) (size-bits greatest (s .0)) ha in
               then-to _ _ _ (aligned-again w _ p q B B′ al ze) ∙
               then-to _ _ _ (taken-has w (id-width c) q B′ id (t .0) m (t .1) (x .0)) ∙
               then-to _ _ _ (z .again B′ m (subst (λ k. Has B′ k (size-bits greatest (s .0))) (ap (λ k. q + k) e₂) (x .1))) ∙

@@ -11,9 +11,9 @@ use Rattle.rules.specs.Steps.{aligned, taken, natural, element, mapped, size-by
 use Rattle.rules.specs.Code.{coded, code-within, code}
 use Rattle.rules.specs.Reading.{elements, objects, objects-to-end, used, rounds, run, extensions, content}
 use Rattle.rules.specs.Tidy.{opened-by, object-by, reading-by}
-use Rattle.roundtrip.specs.Own.{binary, size-code, first-such, lowest-index, header-bits, value-bits, pending}
+use Rattle.roundtrip.specs.Own.{size-code, first-such, lowest-index, header-bits, value-bits, pending}
 use Rattle.roundtrip.specs.Trial.{Trial-holds}
 
 pub trial-holds : Trial-holds
-unfolding then ensure attempt bind items outcome entry term first-member object-class find-row term-value value-within value number bits-of aligned taken natural element mapped size-bytes sized header at-end coded code-within code elements objects objects-to-end used rounds run extensions content opened-by object-by reading-by binary size-code first-such lowest-index header-bits value-bits pending
+unfolding then ensure attempt bind items outcome entry term first-member object-class find-row term-value value-within value number bits-of aligned taken natural element mapped size-bytes sized header at-end coded code-within code elements objects objects-to-end used rounds run extensions content opened-by object-by reading-by size-code first-such lowest-index header-bits value-bits pending
 trial-holds = (refl, refl, refl)

@@ -11,6 +11,7 @@ use Rattle.rules.specs.declared.items.Item.{Item}
 use Rattle.rules.specs.declared.items.Kind.{Kind}
 use Rattle.rules.specs.declared.items.Kind.the-variants.{Value, Open, Close}
 use Rattle.rules.specs.Checks.{Check, pick}
+use Rattle.bits.specs.Bits.{bits-of}
 use Rattle.rules.specs.Order.{declared-at}
 use Rattle.rules.specs.Steps.{id-width}
 use Rattle.table.specs.Description.{Description, class-at, line-at, map-at}
@@ -20,11 +21,6 @@ use Rattle.records.specs.declared.statements.Statement.{Statement}
 use Rattle.records.specs.declared.statements.Statement.the-variants.{Read, Assign, MapRead, Use, If, While, Unknown}
 use Rattle.records.specs.Statements.{statement}
 
--- the n bits of a number below 2 ^ n, the most significant first
-unfoldable pub binary : (n k : ℕ) → List Bool
-binary zero k = []
-binary (suc n) k = leb (2 ^ n) k ∷ binary n (cond (leb (2 ^ n) k) (k - 2 ^ n) k)
-
 -- a number in two's complement
 abbrev pub complement : (n : ℕ) → ℤ → ℕ
 complement n (pos k) = k
@@ -33,10 +29,10 @@ complement n (negsuc k) = 2 ^ n - suc k
 -- a size in the fewest bytes, each a continuation bit and seven bits
 unfoldable pub size-code : ℕ → List Bool
 size-code s =
-    pick (ltb s 128) (λ _. binary 8 s) λ _.
-    pick (ltb s 16384) (λ _. binary 8 (128 + s / 128) ++ binary 8 (s % 128)) λ _.
-    pick (ltb s 2097152) (λ _. binary 8 (128 + s / 16384) ++ (binary 8 (128 + s / 128 % 128) ++ binary 8 (s % 128))) λ _.
-    binary 8 (128 + s / 2097152) ++ (binary 8 (128 + s / 16384 % 128) ++ (binary 8 (128 + s / 128 % 128) ++ binary 8 (s % 128)))
+    pick (ltb s 128) (λ _. bits-of 8 s) λ _.
+    pick (ltb s 16384) (λ _. bits-of 8 (128 + s / 128) ++ bits-of 8 (s % 128)) λ _.
+    pick (ltb s 2097152) (λ _. bits-of 8 (128 + s / 16384) ++ (bits-of 8 (128 + s / 128 % 128) ++ bits-of 8 (s % 128))) λ _.
+    bits-of 8 (128 + s / 2097152) ++ (bits-of 8 (128 + s / 16384 % 128) ++ (bits-of 8 (128 + s / 128 % 128) ++ bits-of 8 (s % 128)))
 
 abbrev pub gives-value : ℤ → Check ℤ → Bool
 gives-value v (Ok u) = same u v
@@ -58,13 +54,13 @@ size-bits (suc g) s = size-code s
 
 -- an object's beginning
 unfoldable pub header-bits : Class → (greatest id size : ℕ) → List Bool
-header-bits c greatest id size = binary (id-width c) id ++ size-bits greatest size
+header-bits c greatest id size = bits-of (id-width c) id ++ size-bits greatest size
 
 -- the bits of a value that a line reads; of a map the lowest index with that output
 unfoldable pub value-bits : Description → Statement → (value : ℤ) → (length : ℕ) → List Bool
-value-bits d (Read signed width name count alignment ahead lowest highest) v n = binary n (complement n v)
+value-bits d (Read signed width name count alignment ahead lowest highest) v n = bits-of n (complement n v)
 value-bits d (Assign name node) v n = []
-value-bits d (MapRead m name) v n = binary (map-at d m .width) (lowest-index (map-at d m .width) (map-output d m) v)
+value-bits d (MapRead m name) v n = bits-of (map-at d m .width) (lowest-index (map-at d m .width) (map-output d m) v)
 value-bits d (Use class count least most carried receiving) v n = []
 value-bits d (If node first second) v n = []
 value-bits d (While node lines rounds) v n = []
