@@ -17,9 +17,9 @@ use Rattle.bits.proofs.Numbers.{number-lt}
 use Rattle.rules.specs.declared.faults.ReadingCause.{ReadingCause}
 use Rattle.rules.specs.Checks.{Check, then, ensure, pick}
 use Rattle.rules.specs.declared.lines.ReadLine.{ReadLine}
-use Rattle.rules.specs.declared.steps.Header.{Header}
-use Rattle.rules.specs.declared.steps.Got.{Got}
 use Rattle.rules.specs.declared.steps.Window.{Window}
+use Rattle.rules.specs.declared.steps.Got.{Got}
+use Rattle.rules.specs.declared.steps.Header.{Header}
 use Rattle.rules.specs.Steps.{enough, next-multiple, aligned, taken, natural, signed, element, mapped, size-bytes, sized, id-width, header}
 use Rattle.rules.specs.Order.{Within-bits}
 use Rattle.rules.proofs.Follow.{true-of}

@@ -33,15 +33,15 @@ use Rattle.rules.specs.declared.terms.Term.the-variants.{Constant, Named, OwnS
 use Rattle.rules.specs.Terms.{term}
 use Rattle.rules.specs.Values.{Names, Worked, in-range, applied, ranged, divided, shifted, bitwise, is-zero, of-node, term-value, before, value-within, value}
 use Rattle.bits.specs.Bits.{number, part}
-use Rattle.rules.specs.declared.steps.Header.{Header}
-use Rattle.rules.specs.declared.steps.Got.{Got}
 use Rattle.rules.specs.declared.steps.Window.{Window}
+use Rattle.rules.specs.declared.steps.Got.{Got}
+use Rattle.rules.specs.declared.steps.Header.{Header}
 use Rattle.rules.specs.Steps.{enough, aligned, taken, natural, at-least, at-most, element, mapped, size-bytes, sized, header, at-end, next-multiple, signed}
 use Rattle.records.specs.declared.statements.Statement.{Statement}
 use Rattle.records.specs.declared.statements.Statement.the-variants.{Read, Assign, MapRead, Use, If, While, Unknown}
 use Rattle.records.specs.Statements.{statement}
-use Rattle.rules.specs.declared.lines.UseLine.{UseLine}
 use Rattle.rules.specs.declared.lines.ReadLine.{ReadLine}
+use Rattle.rules.specs.declared.lines.UseLine.{UseLine}
 use Rattle.rules.specs.Code.{Code, finish, read, assign, map-read, use-of, branch, while, code-within, code}
 use Rattle.rules.specs.Reading.{State, Object, Objects, valued, counted, elements, objects, enough-objects, objects-to-end, used, rounds, run, stretch, extensions, content, reading, after-read, after-object, moved}
 use Rattle.rules.specs.Tidy.{opened-by, object-by, reading-by}

@@ -65,31 +65,31 @@ module _ (older : Description) where
   Hidden k line = (0 < k) ⊎ (length (older .lines) < line)
 
   -- a run of which nothing is left; it begins at a depth, and is done at its home
-  pub data Dark {A : Type 0} (P : A → Type 0) (home : ℕ) : ℕ → Run A → Type 0 where
-    ends : {a : A} → P a → Dark P home home (done a)
-    refuses : {f : ReadingFault} {k : ℕ} → Hidden k (f .line) → Dark P home k (stop f)
-    hidden : {i : Item} {k m : ℕ} {n : Run A} → left-of older k i ≡ [] → deeper older k i ≡ m → Dark P home m n → Dark P home k (out i n)
-    quiet : {k : ℕ} {n : Run A} → Dark P home k n → Dark P home k (pass n)
+  pub data Blank {A : Type 0} (P : A → Type 0) (home : ℕ) : ℕ → Run A → Type 0 where
+    ends : {a : A} → P a → Blank P home home (done a)
+    refuses : {f : ReadingFault} {k : ℕ} → Hidden k (f .line) → Blank P home k (stop f)
+    hidden : {i : Item} {k m : ℕ} {n : Run A} → left-of older k i ≡ [] → deeper older k i ≡ m → Blank P home m n → Blank P home k (out i n)
+    quiet : {k : ℕ} {n : Run A} → Blank P home k n → Blank P home k (pass n)
 
-  pub dark-bind : {A B : Type 0} {P : A → Type 0} {Q : B → Type 0} {home away : ℕ} (f : A → Run B) →
-      ((a : A) → P a → Dark Q home away (f a)) → {k : ℕ} {n : Run A} → Dark P away k n → Dark Q home k (bind n f)
+  pub blank-bind : {A B : Type 0} {P : A → Type 0} {Q : B → Type 0} {home away : ℕ} (f : A → Run B) →
+      ((a : A) → P a → Blank Q home away (f a)) → {k : ℕ} {n : Run A} → Blank P away k n → Blank Q home k (bind n f)
   unfolding bind
-  dark-bind f h (ends {a = a} p) = h a p
-  dark-bind f h (refuses l) = refuses l
-  dark-bind f h (hidden e d t) = hidden e d (dark-bind f h t)
-  dark-bind f h (quiet t) = quiet (dark-bind f h t)
+  blank-bind f h (ends {a = a} p) = h a p
+  blank-bind f h (refuses l) = refuses l
+  blank-bind f h (hidden e d t) = hidden e d (blank-bind f h t)
+  blank-bind f h (quiet t) = quiet (blank-bind f h t)
 
   -- a step of a hidden line
-  pub dark-attempt : {A B : Type 0} {P : B → Type 0} {home : ℕ} (k line p : ℕ) → Hidden k line →
-      (f : A → Run B) (m : Check A) → ((a : A) → Dark P home k (f a)) → Dark P home k (attempt line p m f)
+  pub blank-attempt : {A B : Type 0} {P : B → Type 0} {home : ℕ} (k line p : ℕ) → Hidden k line →
+      (f : A → Run B) (m : Check A) → ((a : A) → Blank P home k (f a)) → Blank P home k (attempt line p m f)
   unfolding attempt
-  dark-attempt k line p l f (Ok a) h = h a
-  dark-attempt k line p l f (Err x) h = refuses l
+  blank-attempt k line p l f (Ok a) h = h a
+  blank-attempt k line p l f (Err x) h = refuses l
 
-  pub dark-pick : {A : Type 0} {P : A → Type 0} {home k : ℕ} (b : Bool) (f g : Unit {0} → Run A) →
-      (T b → Dark P home k (f tt)) → (T (not b) → Dark P home k (g tt)) → Dark P home k (pick b f g)
-  dark-pick true f g x y = x tt
-  dark-pick false f g x y = y tt
+  pub blank-pick : {A : Type 0} {P : A → Type 0} {home k : ℕ} (b : Bool) (f g : Unit {0} → Run A) →
+      (T b → Blank P home k (f tt)) → (T (not b) → Blank P home k (g tt)) → Blank P home k (pick b f g)
+  blank-pick true f g x y = x tt
+  blank-pick false f g x y = y tt
 
 module _ (older : Description) (tidy : Bool) where
   -- from a depth on, what is left of the newer run's items are the older run's, as far as both go;
@@ -121,13 +121,13 @@ module _ (older : Description) (tidy : Bool) where
   follows-bind f g h (new-pass t) = new-pass (follows-bind f g h t)
   follows-bind f g h (old-pass t) = old-pass (follows-bind f g h t)
 
-  pub dark-follows : {A B C : Type 0} {P : A → Type 0} {S : C → B → Type 0} {home : ℕ} (f : A → Run C) (o : Run B) → T (not tidy) → More o →
-      ((a : A) → P a → Follows S home (f a) o) → {k : ℕ} {n : Run A} → Dark older P home k n → Follows S k (bind n f) o
+  pub blank-follows : {A B C : Type 0} {P : A → Type 0} {S : C → B → Type 0} {home : ℕ} (f : A → Run C) (o : Run B) → T (not tidy) → More o →
+      ((a : A) → P a → Follows S home (f a) o) → {k : ℕ} {n : Run A} → Blank older P home k n → Follows S k (bind n f) o
   unfolding bind
-  dark-follows f o x m h (Dark.ends {a = a} p) = h a p
-  dark-follows f o x m h (Dark.refuses l) = lost x l m
-  dark-follows f o x m h (Dark.hidden e d t) = hidden x e d (dark-follows f o x m h t)
-  dark-follows f o x m h (Dark.quiet t) = new-pass (dark-follows f o x m h t)
+  blank-follows f o x m h (Blank.ends {a = a} p) = h a p
+  blank-follows f o x m h (Blank.refuses l) = lost x l m
+  blank-follows f o x m h (Blank.hidden e d t) = hidden x e d (blank-follows f o x m h t)
+  blank-follows f o x m h (Blank.quiet t) = new-pass (blank-follows f o x m h t)
 
   -- a step of an older line, the same in both
   pub follows-attempt : {A B C : Type 0} {R : B → C → Type 0} (line p : ℕ) → line ≤ length (older .lines) →

@@ -4,7 +4,7 @@ pub mod Follow
 pub mod Struck
 pub mod Same
 pub mod Fresh
-pub mod Darks
+pub mod Blanks
 pub mod Chosen
 pub mod Runs
 pub mod Objects

@@ -20,8 +20,8 @@ use Rattle.table.specs.Description.{Description, class-at}
 use Rattle.rules.specs.Lookups.{object-class, greatest}
 use Rattle.rules.specs.Values.{Names}
 use Rattle.bits.specs.Bits.{number, part}
-use Rattle.rules.specs.declared.steps.Header.{Header}
 use Rattle.rules.specs.declared.steps.Window.{Window}
+use Rattle.rules.specs.declared.steps.Header.{Header}
 use Rattle.rules.specs.Steps.{header, enough, aligned, at-end, next-multiple}
 use Rattle.records.specs.declared.statements.Statement.{Statement}
 use Rattle.records.specs.declared.statements.Statement.the-variants.{Read, Assign, MapRead, Use, If, While, Unknown}
@@ -33,10 +33,10 @@ use Rattle.rules.specs.Growth.{Grown, Compares, Growth-law, Copy-law}
 use Rattle.checked.specs.Sound.{Sound, All}
 use Rattle.checked.proofs.Sounds.{sound}
 use Rattle.rules.proofs.Plain.{plain-reading}
-use Rattle.rules.proofs.Follow.{Hidden, More, Dark, Follows, ends, refuses, shown, gives-up, new-pass, both-pass, follows-bind, dark-follows, follows-attempt, follows-pick, above-false, or-true, true-of, compares, copies}
+use Rattle.rules.proofs.Follow.{Hidden, More, Blank, Follows, ends, refuses, shown, gives-up, new-pass, both-pass, follows-bind, blank-follows, follows-attempt, follows-pick, above-false, or-true, true-of, compares, copies}
 use Rattle.rules.proofs.Struck.{show-open, show-open-deeper, show-close, show-close-deeper, mask-open, mask-open-deeper, mask-close, close-deeper}
 use Rattle.rules.proofs.Same.{class-same, greatest-same, code-each}
-use Rattle.rules.proofs.Darks.{Dim, Dim-extension, Held, dark-extensions, dark-content, dark-object, unequal}
+use Rattle.rules.proofs.Blanks.{Hidden-line, Hidden-extension, Held, blank-extensions, blank-content, blank-object, unequal}
 use Rattle.rules.proofs.Fresh.{fresh}
 use Rattle.rules.proofs.Chosen.{Chosen, chosen, chosen-greatest}
 use Rattle.rules.proofs.Runs.{at, Agree, Same, Left, FollowObjects, meet, follow-stretch}
@@ -135,19 +135,19 @@ module _ (older : Description) (tidy : Bool) where
 
 module _ (older newer : Description) (gr : Grown older newer) (so : Sound older) (sn : Sound newer) (bits : List Bool) (tidy : Bool) where
   module _ (new-obj old-obj : Objects) (objs : FollowObjects older tidy new-obj old-obj)
-      (dark : (k line declared index : ℕ) (w : Window) (p : ℕ) → Hidden older k line → Dark older (λ (t : State). Unit {0}) k k (new-obj line declared index w p)) where
+      (blank : (k line declared index : ℕ) (w : Window) (p : ℕ) → Hidden older k line → Blank older (λ (t : State). Unit {0}) k k (new-obj line declared index w p)) where
     -- what comes after an object's content, by the newer and by the older: from the same place, or wherever the object is expandable;
     -- and after new extensions, of which the older has none
     record Closes (S : State → State → Type 0) (g : ℕ) (new-close old-close : State → Run State) (o : Object) : Type 0 where
       both : (s t : State) → Agree older (s .names) (t .names) → (0 < g) ⊎ (s .place ≡ t .place) → Follows older tidy S zero (new-close s) (old-close t)
-      rest : (ys : List Extension) → All (Dim-extension older newer 0 o g) ys → (p : ℕ) (new old : Names) → Agree older new old →
+      rest : (ys : List Extension) → All (Hidden-extension older newer 0 o g) ys → (p : ℕ) (new old : Names) → Agree older new old →
           Follows older tidy S zero (bind (extensions newer bits new-obj o ys (at p new)) new-close) (old-close (at p old))
 
     module _ (S : State → State → Type 0) (g : ℕ) (new-close old-close : State → Run State) (o : Object) (closes : Closes S g new-close old-close o) where
       follow-extensions : (xs ys : List Extension) →
           All (λ (e : Extension).
           (0 < e .first) × (0 < e .number) × (e .first + e .number ≤ suc (length (older .lines))) × (0 < greatest older (e .class))) xs →
-          All (Dim-extension older newer 0 o g) ys → (p : ℕ) (new old : Names) → Agree older new old →
+          All (Hidden-extension older newer 0 o g) ys → (p : ℕ) (new old : Names) → Agree older new old →
           Follows older tidy S zero (bind (extensions newer bits new-obj o (xs ++ ys) (at p new)) new-close) (bind (extensions older bits old-obj o xs (at p old)) old-close)
       unfolding extensions bind
       follow-extensions [] ys a b p new old h = closes .rest ys b p new old h
@@ -168,13 +168,13 @@ module _ (older newer : Description) (gr : Grown older newer) (so : Sound older)
           within q = omega arith
 
       -- the new extensions of an older class
-      new-extensions : (c : ℕ) → c ≤ length (older .classes) → greatest older c ≡ g → o .class ≡ c → All (Dim-extension older newer 0 o g) (gr .extensions .0)
+      new-extensions : (c : ℕ) → c ≤ length (older .classes) → greatest older c ≡ g → o .class ≡ c → All (Hidden-extension older newer 0 o g) (gr .extensions .0)
       unfolding code
       new-extensions c l eg ec =
-          all-both _ _ (Dim-extension older newer 0 o g)
+          all-both _ _ (Hidden-extension older newer 0 o g)
           (λ e new sound. (
             inr new,
-            code-each (Dim older 0) (newer .lines) (e .first) (suc (length (newer .lines)))
+            code-each (Hidden-line older 0) (newer .lines) (e .first) (suc (length (newer .lines)))
                 (λ at x y. inr (omega arith, gr .writes at (omega arith) (omega arith)))
                 (e .number) (e .first) (e .number) (omega arith) (sound .2),
             λ t. inr (own e (eqb→eq (e .class) (o .class) t) (sound .3)),
@@ -254,7 +254,7 @@ module _ (older newer : Description) (gr : Grown older newer) (so : Sound older)
     -- new extensions of a tidy object do nothing
     tidy-rest : {S : State → State → Type 0} (o : Object) (g p : ℕ) → (0 < g → aligned bits (o .window) 8 p ≡ Ok (o .window .end)) → (close : State → Run State) (old : Run State) (new : Names) →
         ((q : ℕ) → (0 < g) ⊎ (q ≡ p) → Follows older tidy S zero (close (at q new)) old) →
-        (ys : List Extension) → All (Dim-extension older newer 0 o g) ys → Follows older tidy S zero (bind (extensions newer bits new-obj o ys (at p new)) close) old
+        (ys : List Extension) → All (Hidden-extension older newer 0 o g) ys → Follows older tidy S zero (bind (extensions newer bits new-obj o ys (at p new)) close) old
     unfolding extensions bind
     tidy-rest o g p al close old new h [] a = h p (inr refl)
     tidy-rest o g p al close old new h (e ∷ es) a =
@@ -272,10 +272,10 @@ module _ (older newer : Description) (gr : Grown older newer) (so : Sound older)
     -- new extensions of a plain object are struck
     plain-rest : {S : State → State → Type 0} (o : Object) (g : ℕ) → T (not tidy) → (close : State → Run State) (old : Run State) (p : ℕ) (new names : Names) → More old →
         Agree older new names → ((t : State) → Agree older (t .names) names → (0 < g) ⊎ (t .place ≡ p) → Follows older tidy S zero (close t) old) →
-        (ys : List Extension) → All (Dim-extension older newer 0 o g) ys → Follows older tidy S zero (bind (extensions newer bits new-obj o ys (at p new)) close) old
+        (ys : List Extension) → All (Hidden-extension older newer 0 o g) ys → Follows older tidy S zero (bind (extensions newer bits new-obj o ys (at p new)) close) old
     plain-rest o g plain close old p new names more ag h ys a =
-        dark-follows older tidy close old plain more (λ t held. h t (kept t (held .0)) (placed t (held .1)))
-        (dark-extensions older newer bits 0 new-obj (dark 0) o new g p ys a (at p new) (inr (λ m l. refl), inr refl))
+        blank-follows older tidy close old plain more (λ t held. h t (kept t (held .0)) (placed t (held .1)))
+        (blank-extensions older newer bits 0 new-obj (blank 0) o new g p ys a (at p new) (inr (λ m l. refl), inr refl))
       where
         kept : (t : State) → (0 < 0) ⊎ ((m : ℕ) → m ≤ length (older .names) → t .names m ≡ new m) → Agree older (t .names) names
         kept t (inl z) = let y : ⊥ = omega arith in absurd y
@@ -294,7 +294,7 @@ module _ (older newer : Description) (gr : Grown older newer) (so : Sound older)
           (old-attempt older tidy line (t .place) _ _ _ (λ e q. closable-refuses older bits tidy g (o .window) (t .place) e q)
           (λ u e. follow-closing declared c g line index (o .window) l k s t h x))
 
-      follow-rest : (ys : List Extension) → All (Dim-extension older newer 0 o g) ys → (p : ℕ) (new old : Names) → Agree older new old →
+      follow-rest : (ys : List Extension) → All (Hidden-extension older newer 0 o g) ys → (p : ℕ) (new old : Names) → Agree older new old →
           Follows older tidy (Left older declared) zero (bind (extensions newer bits new-obj o ys (at p new)) (allowed false c g line index (o .window)))
           (allowed tidy c g line index (o .window) (at p old))
       follow-rest ys a p new old h = go (split tidy)
@@ -334,12 +334,12 @@ module _ (older newer : Description) (gr : Grown older newer) (so : Sound older)
         let o : Object = record { class = c; size = a .size; window = inner older bits (suc g) a w } in
         shown (mask-open older line l c k index a) (mask-open-deeper older line l c k index a) (λ t. absurd (T-not tidy plain t))
         (subst (λ r. Follows older tidy (Left older declared) 1 (bind (content newer bits new-obj o c (at (a .after) all-zero)) (allowed false c (suc g) line index (o .window))) r) (sym (allowed-plain tidy plain 0 (suc g) line index (inner older bits (suc g) a w) (at (a .after) all-zero)))
-        (dark-follows older tidy (allowed false c (suc g) line index (inner older bits (suc g) a w))
+        (blank-follows older tidy (allowed false c (suc g) line index (inner older bits (suc g) a w))
         (closing 0 (suc g) line index (inner older bits (suc g) a w) (at (a .after) all-zero)) plain tt
         (λ s u. new-attempt older tidy line (s .place) _ _ tt _ refl
         (shown (mask-close older line l c k index (a .after + 8 * a .size)) (close-deeper older 0 c line index (a .after + 8 * a .size)) (λ t. absurd (T-not tidy plain t))
         (ends (refl, inr (b, gd)))))
-        (dark-content older newer bits 1 (omega arith) new-obj (dark 1) o c (at (a .after) all-zero))))
+        (blank-content older newer bits 1 (omega arith) new-obj (blank 1) o c (at (a .after) all-zero))))
 
     -- a declared class whose id and size are read
     follow-chosen : (declared g line index p : ℕ) (a : Header) (w : Window) → line ≤ length (older .lines) → g ≡ greatest older declared →
@@ -397,7 +397,7 @@ module _ (older newer : Description) (gr : Grown older newer) (so : Sound older)
       subst₂ (λ c g. Follows older tidy (Left older declared) zero (begun c g) (object-by older bits tidy (suc n) line declared index w p))
       (sym (class-same older newer gr declared k)) (sym (greatest-same older newer gr so declared k))
       (follows-attempt older tidy line p l _ _ _ _ refl λ a.
-      follow-chosen (object-by newer bits false n) (object-by older bits tidy n) (follow-object n) (dark-object older newer bits n)
+      follow-chosen (object-by newer bits false n) (object-by older bits tidy n) (follow-object n) (blank-object older newer bits n)
       declared (greatest older declared) line index p a w l refl (object-class newer declared (a .id)) (object-class older declared (a .id))
       (chosen older newer gr declared (a .id) k) (λ m e. chosen-greatest older declared (a .id) m e))
     where

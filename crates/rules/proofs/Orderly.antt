@@ -22,12 +22,12 @@ use Rattle.rules.specs.Trace.{Run, out, pass, stop, done, bind, items, outcome
 use Rattle.rules.specs.Checks.{Check, ensure, pick, attempt}
 use Rattle.rules.specs.Lookups.{greatest, object-class, map-output}
 use Rattle.rules.specs.Values.{is-zero}
-use Rattle.rules.specs.declared.lines.UseLine.{UseLine}
 use Rattle.rules.specs.declared.lines.ReadLine.{ReadLine}
+use Rattle.rules.specs.declared.lines.UseLine.{UseLine}
 use Rattle.rules.specs.Code.{Code, finish, read, assign, map-read, use-of, branch, while, code}
-use Rattle.rules.specs.declared.steps.Header.{Header}
-use Rattle.rules.specs.declared.steps.Got.{Got}
 use Rattle.rules.specs.declared.steps.Window.{Window}
+use Rattle.rules.specs.declared.steps.Got.{Got}
+use Rattle.rules.specs.declared.steps.Header.{Header}
 use Rattle.rules.specs.Steps.{aligned, natural, element, mapped, header, id-width, at-end, next-multiple}
 use Rattle.rules.specs.Reading.{State, Object, Objects, after-read, after-object, value-item, open-item, close-item, valued, counted, elements, objects, enough-objects, objects-to-end, used, rounds, run, stretch, extensions, content, inner, closed, opened, object, whole, reading, moved}
 use Rattle.checked.specs.Sound.{All}

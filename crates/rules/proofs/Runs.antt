@@ -16,15 +16,15 @@ use Rattle.records.specs.Classes.{is-base}
 use Rattle.table.specs.Description.{Description, class-at, entry, no-line, map-at}
 use Rattle.rules.specs.Lookups.{greatest, map-output}
 use Rattle.rules.specs.Values.{Names, is-zero, value}
-use Rattle.rules.specs.declared.steps.Header.{Header}
-use Rattle.rules.specs.declared.steps.Got.{Got}
 use Rattle.rules.specs.declared.steps.Window.{Window}
+use Rattle.rules.specs.declared.steps.Got.{Got}
+use Rattle.rules.specs.declared.steps.Header.{Header}
 use Rattle.rules.specs.Steps.{element, mapped, natural, next-multiple}
 use Rattle.records.specs.declared.statements.Statement.{Statement}
 use Rattle.records.specs.declared.statements.Statement.the-variants.{Read, Assign, MapRead, Use, If, While, Unknown}
 use Rattle.records.specs.Statements.{statement}
-use Rattle.rules.specs.declared.lines.UseLine.{UseLine}
 use Rattle.rules.specs.declared.lines.ReadLine.{ReadLine}
+use Rattle.rules.specs.declared.lines.UseLine.{UseLine}
 use Rattle.rules.specs.Code.{Code, finish, read, assign, map-read, use-of, branch, while, code-within, code}
 use Rattle.rules.specs.Reading.{State, Object, Objects, write, moved, after-read, after-object, value-item, valued, counted, elements, objects, enough-objects, objects-to-end, used, rounds, run, stretch}
 use Rattle.rules.specs.Growth.{Grown}

@@ -24,8 +24,8 @@ use Rattle.rules.specs.Values.{Names, term-value, before, value-within, value,
 use Rattle.records.specs.declared.statements.Statement.{Statement}
 use Rattle.records.specs.declared.statements.Statement.the-variants.{Read, Assign, MapRead, Use, If, While, Unknown}
 use Rattle.records.specs.Statements.{statement}
-use Rattle.rules.specs.declared.lines.UseLine.{UseLine}
 use Rattle.rules.specs.declared.lines.ReadLine.{ReadLine}
+use Rattle.rules.specs.declared.lines.UseLine.{UseLine}
 use Rattle.rules.specs.Code.{Code, finish, read, assign, map-read, use-of, branch, while, coded, code-within, code}
 use Rattle.rules.specs.Growth.{Begins, Grown}
 use Rattle.checked.specs.Sound.{Sound}

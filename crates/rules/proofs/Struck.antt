@@ -8,8 +8,8 @@ use lib.Dec.{T, ltb}
 use lib.ListN.{length}
 use Rattle.rules.specs.declared.items.Item.{Item}
 use Rattle.table.specs.Description.{Description}
-use Rattle.rules.specs.declared.steps.Header.{Header}
 use Rattle.rules.specs.declared.steps.Got.{Got}
+use Rattle.rules.specs.declared.steps.Header.{Header}
 use Rattle.rules.specs.Reading.{Object, value-item, open-item, close-item}
 use Rattle.rules.specs.Growth.{new-line, new-class, deeper, left-of, of-class-zero}
 use Rattle.rules.proofs.Follow.{Hidden, below-true, above-false, or-true}

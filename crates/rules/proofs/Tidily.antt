@@ -20,8 +20,8 @@ use Rattle.rules.specs.Lookups.{greatest, object-class}
 use Rattle.rules.specs.Values.{is-zero}
 use Rattle.rules.specs.declared.lines.UseLine.{UseLine}
 use Rattle.rules.specs.Code.{Code, finish, read, assign, map-read, use-of, branch, while, code}
-use Rattle.rules.specs.declared.steps.Header.{Header}
 use Rattle.rules.specs.declared.steps.Window.{Window}
+use Rattle.rules.specs.declared.steps.Header.{Header}
 use Rattle.rules.specs.Steps.{aligned, header, next-multiple}
 use Rattle.rules.specs.Reading.{State, Object, Objects, objects, enough-objects, objects-to-end, used, rounds, run, stretch, extensions, content, whole, reading}
 use Rattle.rules.specs.Tidy.{opened-by, object-by, reading-by, tidy-reading, Tidy-law}
