@@ -5,9 +5,9 @@ ghost use lib.ListN.{length};
 ghost use lib.Dec.{eqb};
 ghost use mathlib.Core.Bool.{cond};
 ghost use Rattle.rules.specs.Steps.{size-bytes, sized, header, id-width};
-use bits::source::Source;
 use crate::bits_taken::aligned;
 use crate::bits_taken::taken;
+use bits::source::Source;
 use records::records::Class;
 use rules::faults::Failure;
 use rules::faults::ReadingCause;
@@ -77,7 +77,11 @@ fn id_width(declared: Class) -> u16
     ensures value { λ r. ⌜ r ≡ id-width declared ⌝ }
     ensures bound { λ r. ⌜ r ≤ declared .width ⌝ }
 {
-    if declared.is_base() { declared.width } else { 0 }
+    if declared.is_base() {
+        declared.width
+    } else {
+        0
+    }
 }
 
 // How an object with a greatest size is aligned: to 8 if it is expandable.

@@ -11,8 +11,8 @@ returns-then-q-window g c =
     let e = c .next-multiple-q .ensures .value in
     record {
       value =
-        ap Err (c .ends .ensures)
-        ∙ sym (aligned-short (g .S·Source .bits (c .args .source .now)) (c .args .window) (c .args .to) (c .args .p) (rw (← e) (c .next-multiple-q .ensures .bound)) (rw (← e) (c .if-q-window .taken)));
+          ap Err (c .ends .ensures)
+          ∙ sym (aligned-short (g .S·Source .bits (c .args .source .now)) (c .args .window) (c .args .to) (c .args .p) (rw (← e) (c .next-multiple-q .ensures .bound)) (rw (← e) (c .if-q-window .taken)));
       bound = tt;
     }
 
@@ -22,8 +22,8 @@ returns-then-zero g c =
     let e = c .next-multiple-q .ensures .value in
     record {
       value =
-        ap Ok e
-        ∙ sym (aligned-zero bits (c .args .window) (c .args .to) (c .args .p) (rw (← e) (c .next-multiple-q .ensures .bound)) (rw (← e) (c .if-q-window .left))
+          ap Ok e
+          ∙ sym (aligned-zero bits (c .args .window) (c .args .to) (c .args .p) (rw (← e) (c .next-multiple-q .ensures .bound)) (rw (← e) (c .if-q-window .left))
           (rw (← e) (zero-told bits (c .args .p) (c .next-multiple-q .result - c .args .p) (c .in-Ok .zero) (c .in-Ok .ensures tt) ∙ c .if-zero .taken)));
       bound = (c .next-multiple-q .ensures .bound, c .if-q-window .left);
     }
@@ -34,7 +34,7 @@ returns-else-zero g c =
     let e = c .next-multiple-q .ensures .value in
     record {
       value =
-        sym (aligned-set bits (c .args .window) (c .args .to) (c .args .p) (rw (← e) (c .next-multiple-q .ensures .bound)) (rw (← e) (c .if-q-window .left))
+          sym (aligned-set bits (c .args .window) (c .args .to) (c .args .p) (rw (← e) (c .next-multiple-q .ensures .bound)) (rw (← e) (c .if-q-window .left))
           (rw (← e) (zero-told bits (c .args .p) (c .next-multiple-q .result - c .args .p) (c .in-Ok .zero) (c .in-Ok .ensures tt) ∙ c .if-zero .left)));
       bound = tt;
     }

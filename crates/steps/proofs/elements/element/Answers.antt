@@ -16,7 +16,7 @@ use Rattle.steps.proofs.elements.element.Needs as need
 pub returns-in-Break-place : need.returns-in-Break-place
 returns-in-Break-place g c =
     let p = err-from-errBy (c .from-residual .result) (c .from-residual .ensures .1) in
-    rw (p .1, p .2) (record { value = element-unaligned (g .S·Source .bits (c .args .source .now)) (c .args .window) (c .args .line) (value (c .args .nodes .now) (c .args .size) (named-by (c .args .names .now)) (c .args .line .width)) (value (c .args .nodes .now) (c .args .size) (named-by (c .args .names .now)) (c .args .line .lowest)) (value (c .args .nodes .now) (c .args .size) (named-by (c .args .names .now)) (c .args .line .highest)) (c .args .p)  _ (c .in-Break-place .ensures tt .value); bound = tt })
+    rw (p .1, p .2) (record { value = element-unaligned (g .S·Source .bits (c .args .source .now)) (c .args .window) (c .args .line) (value (c .args .nodes .now) (c .args .size) (named-by (c .args .names .now)) (c .args .line .width)) (value (c .args .nodes .now) (c .args .size) (named-by (c .args .names .now)) (c .args .line .lowest)) (value (c .args .nodes .now) (c .args .size) (named-by (c .args .names .now)) (c .args .line .highest)) (c .args .p) _ (c .in-Break-place .ensures tt .value); bound = tt })
 
 pub returns-in-Break-width : need.returns-in-Break-width
 returns-in-Break-width g c =
