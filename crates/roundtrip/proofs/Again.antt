@@ -1,32 +1,25 @@
 -- Single steps: what a step gives over some bits, it gives over any bits that have what was taken and 0 where it skipped.
 use Rattle.rules.specs.declared.faults.ReadingCause.{ReadingCause}
-use Rattle.rules.specs.declared.faults.ReadingCause.the-variants.{SourceEnds, ObjectEnds, SkippedBits, UnknownId, TooFew, BitsLeft, WidthOrCount, TooManyRounds}
+use Rattle.rules.specs.declared.faults.ReadingCause.the-variants.{SkippedBits}
 use mathlib.Core.Path.{_≡_, refl, sym, _∙_, ap, subst}
-use mathlib.Core.Bool.{Bool, true, false, cond, not, _&&_}
-use mathlib.Core.List.{List, [], _∷_, _++_}
-use mathlib.Core.Logic.{_⊎_, inl, inr}
-use Prim.Native.Nat.{ℕ, zero, suc, _+_, _-_, _*_, _/_, _%_, _^_, _≤_, _<_}
+use mathlib.Core.Bool.{Bool, true, false, cond, not}
+use mathlib.Core.List.{List}
+use Prim.Native.Nat.{ℕ, zero, suc, _+_, _-_, _^_, _≤_, _<_}
 use native.Mathlib.Omega.{arith}
-use lib.Dec.{T, leb, ltb, eqb, leb→le, le→leb, nleb→lt, ltb→lt, lt→ltb, nltb→le, eqb→eq, eqb-refl, T-not}
-use lib.IntN.{ℤ, pos, negsuc, _-ℤ_, natAbs}
-use lib.ListN.{length, take, drop, getD, length-append}
+use lib.Dec.{T, leb, ltb, eqb, leb→le, le→leb, ltb→lt, nltb→le, T-not}
+use lib.IntN.{ℤ, pos, negsuc, natAbs}
+use lib.ListN.{length}
 use lib.Signed.{leZ}
 use Rattle.std.specs.declared.result.Result.the-variants.{Ok, Err}
-use Rattle.records.specs.declared.records.Class.{Class}
-use Rattle.rules.specs.Checks.{Check, then, fails, ensure, pick}
-use Rattle.records.specs.Classes.{is-base}
+use Rattle.rules.specs.Checks.{Check, then, ensure}
 use Rattle.bits.specs.Bits.{number, part, bits-of, length-bits-of}
 use Rattle.rules.specs.declared.lines.ReadLine.{ReadLine}
-use Rattle.rules.specs.declared.lines.UseLine.{UseLine}
 use Rattle.rules.specs.declared.steps.Window.{Window}
 use Rattle.rules.specs.declared.steps.Got.{Got}
-use Rattle.rules.specs.declared.steps.Header.{Header}
-use Rattle.rules.specs.Steps.{enough, next-multiple, aligned, taken, natural, signed, at-least, at-most, element, mapped, size-bytes, sized, header}
-use Rattle.rules.specs.Values.{same}
-use Rattle.roundtrip.specs.Own.{complement, size-code, gives-value, first-such, lowest-index, size-bits, header-bits}
-use Rattle.rules.specs.Steps.{id-width}
+use Rattle.rules.specs.Steps.{next-multiple, aligned, taken, natural, signed, at-least, at-most, element, mapped}
+use Rattle.roundtrip.specs.Own.{complement, gives-value, first-such, lowest-index}
 use Rattle.roundtrip.specs.Standing.{Zeros, Has}
-use Rattle.roundtrip.proofs.Numbers.{true-of, false-of, of-true, both, with-both, decide, number-of-bits, number-bound, part-bound, has-part, has-append, zeros-number, complement-value, same-eq, same-refl, multiple-above}
+use Rattle.roundtrip.proofs.Numbers.{true-of, false-of, of-true, both, decide, number-of-bits, part-bound, has-part, zeros-number, complement-value, same-eq, same-refl, multiple-above}
 
 pub record Via {A B : Type 0} (c : Check A) (k : A → Check B) (b : B) : Type 0 where
   pub mid : A

@@ -1,35 +1,27 @@
 -- A step looks only at the bits up to where it ends.
-use Rattle.rules.specs.declared.faults.ReadingCause.{ReadingCause}
-use Rattle.rules.specs.declared.faults.ReadingCause.the-variants.{SourceEnds, ObjectEnds, SkippedBits, UnknownId, TooFew, BitsLeft, WidthOrCount, TooManyRounds}
-use mathlib.Core.Path.{_≡_, refl, sym, _∙_, ap, subst}
-use mathlib.Core.Bool.{Bool, true, false, cond, not, _&&_}
-use mathlib.Core.List.{List, [], _∷_, _++_}
-use mathlib.Core.Logic.{_⊎_, inl, inr}
-use Prim.Native.Nat.{ℕ, zero, suc, _+_, _-_, _*_, _/_, _%_, _^_, _≤_, _<_}
+use Rattle.rules.specs.declared.faults.ReadingCause.the-variants.{SkippedBits}
+use mathlib.Core.Path.{_≡_, refl, sym, _∙_, ap}
+use mathlib.Core.Bool.{Bool, true, false, cond}
+use mathlib.Core.List.{List, _∷_}
+use Prim.Native.Nat.{ℕ, zero, suc, _+_, _-_, _*_, _%_, _≤_}
 use native.Mathlib.Omega.{arith}
-use lib.Dec.{T, leb, ltb, eqb, leb→le, le→leb, nleb→lt, ltb→lt, lt→ltb, nltb→le, eqb→eq, eqb-refl, T-not}
-use lib.IntN.{ℤ, pos, negsuc, _-ℤ_, natAbs}
-use lib.ListN.{length, take, drop, getD, drop-of-length-le}
-use lib.Signed.{leZ}
-use Rattle.std.specs.declared.result.Result.the-variants.{Ok, Err}
+use lib.Dec.{ltb, eqb, ltb→lt, nltb→le}
+use lib.IntN.{ℤ}
+use lib.ListN.{length, take, drop-of-length-le}
+use Rattle.std.specs.declared.result.Result.the-variants.{Ok}
 use Rattle.records.specs.declared.records.Class.{Class}
-use Rattle.rules.specs.Checks.{Check, then, fails, ensure, pick}
-use Rattle.records.specs.Classes.{is-base}
-use Rattle.bits.specs.Bits.{number, part, bits-of, length-bits-of}
+use Rattle.rules.specs.Checks.{Check, then, ensure, pick}
+use Rattle.bits.specs.Bits.{number, part}
 use Rattle.rules.specs.declared.lines.ReadLine.{ReadLine}
-use Rattle.rules.specs.declared.lines.UseLine.{UseLine}
 use Rattle.rules.specs.declared.steps.Window.{Window}
 use Rattle.rules.specs.declared.steps.Got.{Got}
 use Rattle.rules.specs.declared.steps.Header.{Header}
-use Rattle.rules.specs.Steps.{enough, next-multiple, aligned, taken, natural, signed, at-least, at-most, element, mapped, size-bytes, sized, header}
-use Rattle.rules.specs.Values.{same}
-use Rattle.roundtrip.specs.Own.{complement, size-code, gives-value, first-such, lowest-index, size-bits, header-bits}
+use Rattle.rules.specs.Steps.{enough, next-multiple, aligned, taken, element, mapped, size-bytes, sized, header}
 use Rattle.rules.specs.Steps.{id-width}
-use Rattle.roundtrip.specs.Standing.{Zeros, Has}
-use Rattle.roundtrip.proofs.Numbers.{true-of, false-of, of-true, both, with-both, decide, number-of-bits, number-bound, part-bound, has-part, has-append, zeros-number, complement-value, same-eq, same-refl, multiple-above}
+use Rattle.roundtrip.proofs.Numbers.{decide, multiple-above}
 use lib.Seq.{drop-cons}
 use Rattle.roundtrip.specs.Least.{Agree, Least, Looks}
-use Rattle.roundtrip.proofs.Again.{then-ok, then-to, ensure-ok, to-ensure, via, ok-same, aligned-is, aligned-facts, taken-facts, lowest-finds}
+use Rattle.roundtrip.proofs.Again.{then-to, via, ok-same, aligned-is, aligned-facts, lowest-finds}
 use Rattle.roundtrip.proofs.Sizes.{byte-cases, never, size-read}
 
 -- a size ends after it begins

@@ -1,11 +1,11 @@
 -- Bits that begin with what was written, and the guess.
 use mathlib.Core.Path.{_≡_, refl, sym, _∙_, ap, subst}
-use mathlib.Core.Bool.{Bool, true, false, cond, not}
+use mathlib.Core.Bool.{Bool, false}
 use mathlib.Core.List.{List, [], _∷_, _++_, append-assoc}
 use Prim.Native.Nat.{ℕ, zero, suc, _+_, _-_, _≤_, _<_}
 use native.Mathlib.Omega.{arith}
-use lib.Dec.{T, ltb, ltb→lt, nltb→le}
-use lib.ListN.{length, take, drop, getD, replicate, length-append, length-take, length-drop, length-replicate, getD-replicate, List·getD-append}
+use lib.Dec.{ltb, ltb→lt, nltb→le}
+use lib.ListN.{length, drop, getD, replicate, length-append, length-take, length-drop, length-replicate, getD-replicate, List·getD-append}
 use lib.Seq.{getD-take, getD-append-add, getD-drop}
 use Rattle.rules.specs.declared.items.Item.{Item}
 use Rattle.table.specs.Description.{Description}

@@ -1,27 +1,26 @@
 -- What can be put by the rule's own words is what can be put by the tidy reading.
-use mathlib.Core.Path.{_≡_, refl, sym, _∙_, ap, subst}
+use mathlib.Core.Path.{_≡_, sym, _∙_, ap, subst}
 use mathlib.Core.Bool.{Bool, true, false}
-use mathlib.Core.List.{List, [], _∷_, _++_, append-assoc}
-use Prim.Native.Nat.{ℕ, zero, suc, _+_, _-_, _≤_, _<_}
+use mathlib.Core.List.{List, [], _∷_, _++_}
+use Prim.Native.Nat.{ℕ, _-_}
 use native.Mathlib.Omega.{arith}
 use lib.ListN.{length, replicate, length-append, length-replicate}
 use Rattle.rules.specs.declared.items.Item.{Item}
-use Rattle.rules.specs.declared.faults.ReadingFault.{ReadingFault}
-use Rattle.rules.specs.Trace.{Run, out, pass, stop, done, items, outcome, ended}
+use Rattle.rules.specs.Trace.{Run, items, outcome}
 use Rattle.table.specs.Description.{Description}
 use Rattle.rules.specs.Tidy.{reading-by}
 use Rattle.roundtrip.specs.Own.{own-bits, end-of}
-use Rattle.roundtrip.specs.Standing.{Head, gives, halts, ends, head, Fam, Fits}
+use Rattle.roundtrip.specs.Standing.{gives, ends, head, Fam, Fits}
 use Rattle.roundtrip.specs.Writing.{Straight, Can-follow, Written, fresh, put, appended, Ahead}
 use Rattle.rules.specs.Growth.{Begins}
-use Rattle.roundtrip.specs.Rule.{Neat, May-follow, Put-down, none, more, Rule-law, Finish-law, All-put, finished, Finishes, Newer-law}
+use Rattle.roundtrip.specs.Rule.{Neat, May-follow, Put-down, none, more, Rule-law, Finish-law, finished, Newer-law}
 use Rattle.rules.specs.Order.{Bytes}
 use Rattle.roundtrip.proofs.Begun.{appended-fits}
 use Rattle.rules.proofs.Plain.{plain-reading}
 use Rattle.rules.proofs.Tidily.{tidy-law}
 use Rattle.rules.proofs.Objects.{copy-law}
 use Rattle.rules.proofs.WholeBytes.{bytes}
-use Rattle.roundtrip.proofs.Round.{writing-law, leads-more, leads-items, leads-outcome, ends-head, head-ends, empty-tail, append-none, head-after, Put, following, moved, start}
+use Rattle.roundtrip.proofs.Round.{writing-law, leads-more, leads-items, leads-outcome, ends-head, head-ends, empty-tail, append-none, head-after, following, moved, start}
 use Rattle.roundtrip.proofs.Neatly.{Tidied, ends, stops, passes, shown, cut, tidied-reading}
 
 abbrev Any : ℕ → Unit {0} → Type 0

@@ -1,20 +1,18 @@
 -- How standing goes through steps that look at no bits, and through one run after another.
 use mathlib.Core.Path.{_≡_, refl, sym, _∙_, ap, subst}
-use mathlib.Core.Bool.{Bool, true, false, cond, not}
-use mathlib.Core.List.{List, [], _∷_, _++_}
+use mathlib.Core.Bool.{Bool, true, false, not}
+use mathlib.Core.List.{List}
 use mathlib.Core.Logic.{_⊎_, inl, inr}
-use Prim.Native.Nat.{ℕ, zero, suc, _+_, _≤_, _<_}
+use Prim.Native.Nat.{ℕ, _≤_}
 use native.Mathlib.Omega.{arith}
 use lib.Dec.{T}
 use lib.ListN.{length}
 use Rattle.std.specs.declared.result.Result.the-variants.{Ok, Err}
 use Rattle.rules.specs.declared.items.Item.{Item}
-use Rattle.rules.specs.declared.faults.ReadingFault.{ReadingFault}
 use Rattle.rules.specs.Trace.{Run, out, pass, stop, done, bind}
-use Rattle.rules.specs.Checks.{Check, attempt, fault, pick}
+use Rattle.rules.specs.Checks.{Check, attempt, pick}
 use Rattle.table.specs.Description.{Description}
-use Rattle.roundtrip.specs.Own.{own-bits, end-of}
-use Rattle.roundtrip.specs.Standing.{Head, gives, halts, ends, head, Halted, Fam, Zeros, Fits, Stands, stuck, quiet, hands}
+use Rattle.roundtrip.specs.Standing.{Head, gives, halts, ends, head, Halted, Fam, Zeros, Stands, stuck, quiet, hands}
 
 unfoldable pub onwards : {A B : Type 0} → Head A → (A → Run B) → Head B
 onwards (gives i t) k = gives i (bind t k)

@@ -1,32 +1,29 @@
 -- A reading stands, at each place, as a writing wants it.
-use Rattle.rules.specs.declared.faults.ReadingCause.{ReadingCause}
-use Rattle.rules.specs.declared.faults.ReadingCause.the-variants.{SourceEnds, ObjectEnds, SkippedBits, UnknownId, TooFew, BitsLeft, WidthOrCount, TooManyRounds}
+use Rattle.rules.specs.declared.faults.ReadingCause.the-variants.{UnknownId, BitsLeft, TooManyRounds}
 use mathlib.Core.Path.{_≡_, refl, sym, _∙_, ap, subst}
-use mathlib.Core.Bool.{Bool, true, false, cond, not, _||_, _&&_}
-use mathlib.Core.List.{List, [], _∷_, _++_}
+use mathlib.Core.Bool.{Bool, true, false, not, _||_, _&&_}
+use mathlib.Core.List.{List, [], _∷_}
 use mathlib.Core.Logic.{_⊎_, inl, inr}
 use Prim.Native.Nat.{ℕ, zero, suc, _+_, _-_, _*_, _^_, _≤_, _<_}
 use native.Mathlib.Omega.{arith}
-use lib.Dec.{T, T-not, leb, ltb, eqb, leb→le, le→leb, ltb→lt, eqb→eq}
-use lib.IntN.{ℤ, pos, natAbs}
-use lib.ListN.{length, take, drop, length-drop}
+use lib.Dec.{T, T-not, leb, ltb, eqb, leb→le}
+use lib.IntN.{ℤ, natAbs}
+use lib.ListN.{length, drop, length-drop}
 use lib.Seq.{take-all}
 use Rattle.std.specs.declared.result.Result.the-variants.{Ok, Err}
 use Rattle.records.specs.declared.records.Extension.{Extension}
 use Rattle.rules.specs.declared.items.Item.{Item}
-use Rattle.rules.specs.declared.items.Kind.the-variants.{Value, Open, Close}
-use Rattle.rules.specs.Trace.{Run, out, pass, stop, done, bind}
-use Rattle.rules.specs.Checks.{Check, then, ensure, pick, attempt, fault}
+use Rattle.rules.specs.Trace.{Run, out, pass, done, bind}
+use Rattle.rules.specs.Checks.{Check, then, ensure, pick, attempt}
 use Rattle.table.specs.Description.{Description, class-at, line-at, map-at}
 use Rattle.rules.specs.Lookups.{greatest, object-class, map-output}
-use Rattle.rules.specs.Values.{Names, value, is-zero}
-use Rattle.bits.specs.Bits.{number, part, bits-of, length-bits-of}
+use Rattle.rules.specs.Values.{value, is-zero}
+use Rattle.bits.specs.Bits.{number, bits-of, length-bits-of}
 use Rattle.rules.specs.declared.steps.Window.{Window}
 use Rattle.rules.specs.declared.steps.Got.{Got}
 use Rattle.rules.specs.declared.steps.Header.{Header}
-use Rattle.rules.specs.Steps.{aligned, natural, element, mapped, header, at-end, next-multiple}
-use Rattle.records.specs.declared.statements.Statement.{Statement}
-use Rattle.records.specs.declared.statements.Statement.the-variants.{Read, Assign, MapRead, Use, If, While, Unknown}
+use Rattle.rules.specs.Steps.{aligned, element, mapped, header, at-end, next-multiple}
+use Rattle.records.specs.declared.statements.Statement.the-variants.{MapRead}
 use Rattle.records.specs.Statements.{statement}
 use Rattle.rules.specs.declared.lines.ReadLine.{ReadLine}
 use Rattle.rules.specs.declared.lines.UseLine.{UseLine}
@@ -36,12 +33,12 @@ use Rattle.rules.specs.Tidy.{closable, opened-by, object-by, reading-by}
 use Rattle.roundtrip.specs.Own.{complement, lowest-index, value-bits, header-bits, own-bits, end-of, Sensible, Sensible-value}
 use Rattle.rules.specs.Order.{declared-at}
 use Rattle.rules.specs.Steps.{id-width}
-use Rattle.roundtrip.specs.Standing.{Head, gives, halts, ends, head, Halted, Fam, Zeros, Has, Fits, Stands, stuck, quiet, hands}
+use Rattle.roundtrip.specs.Standing.{gives, ends, head, Halted, Fam, Zeros, Has, Fits, Stands, stuck, quiet, hands}
 use Rattle.roundtrip.specs.Writing.{Straight, Standing-law}
 use Rattle.roundtrip.proofs.Heads.{stands-bind, stands-pass, stands-done, stands-attempt, stands-pick, stands-same}
-use Rattle.roundtrip.proofs.Numbers.{true-of, false-of, of-true, both, with-both, decide, zeros-number, multiple-above}
-use Rattle.roundtrip.proofs.Again.{then-ok, then-to, ensure-ok, to-ensure, via, ok-same, aligned-is, aligned-zeros, Element-again, element-again, Mapped-again, mapped-again}
-use Rattle.roundtrip.proofs.Sizes.{Header-again, header-again}
+use Rattle.roundtrip.proofs.Numbers.{both, with-both, decide, zeros-number, multiple-above}
+use Rattle.roundtrip.proofs.Again.{then-to, ensure-ok, to-ensure, via, ok-same, aligned-is, aligned-zeros, element-again, mapped-again}
+use Rattle.roundtrip.proofs.Sizes.{header-again}
 use Rattle.roundtrip.proofs.Lines.{Tells, code-tells}
 use Rattle.rules.proofs.Same.{reads, uses, Each}
 

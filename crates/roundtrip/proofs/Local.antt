@@ -1,44 +1,37 @@
 -- What a reading does from a place on does not look at the bits before it, and places never go back.
-use Rattle.rules.specs.declared.faults.ReadingCause.{ReadingCause}
-use Rattle.rules.specs.declared.faults.ReadingCause.the-variants.{SourceEnds, ObjectEnds, SkippedBits, UnknownId, TooFew, BitsLeft, WidthOrCount, TooManyRounds}
+use Rattle.rules.specs.declared.faults.ReadingCause.the-variants.{SkippedBits, UnknownId, TooFew, BitsLeft, TooManyRounds}
 use mathlib.Core.Path.{_≡_, refl, sym, _∙_, ap, subst}
 use mathlib.Core.Bool.{Bool, true, false, cond, not, _||_, _&&_}
-use mathlib.Core.List.{List, [], _∷_, _++_}
-use mathlib.Core.Logic.{_⊎_, inl, inr}
-use Prim.Native.Nat.{ℕ, zero, suc, _+_, _-_, _*_, _%_, _≤_, _<_}
+use mathlib.Core.List.{List, [], _∷_}
+use Prim.Native.Nat.{ℕ, zero, suc, _+_, _-_, _*_, _%_, _≤_}
 use native.Mathlib.Omega.{arith}
-use lib.Dec.{T, T-not, leb, ltb, eqb, leb→le, le→leb, ltb→lt, eqb→eq}
-use lib.IntN.{ℤ, pos, natAbs}
-use lib.ListN.{length, take, drop, length-drop}
+use lib.Dec.{leb, ltb, eqb, leb→le}
+use lib.IntN.{ℤ}
+use lib.ListN.{length, take, drop}
 use lib.Seq.{drop-drop}
 use Rattle.std.specs.declared.result.Result.the-variants.{Ok, Err}
 use Rattle.records.specs.declared.records.Class.{Class}
 use Rattle.records.specs.declared.records.Extension.{Extension}
 use Rattle.rules.specs.declared.items.Item.{Item}
-use Rattle.rules.specs.declared.items.Kind.the-variants.{Value, Open, Close}
 use Rattle.rules.specs.Trace.{Run, out, pass, stop, done, bind}
-use Rattle.rules.specs.Checks.{Check, then, ensure, pick, attempt, fault}
+use Rattle.rules.specs.Checks.{Check, then, ensure, pick, attempt}
 use Rattle.records.specs.Classes.{is-base}
-use Rattle.table.specs.Description.{Description, class-at, line-at, map-at}
+use Rattle.table.specs.Description.{Description, class-at, map-at}
 use Rattle.rules.specs.Lookups.{greatest, object-class, map-output}
-use Rattle.rules.specs.Values.{Names, value, is-zero}
-use Rattle.bits.specs.Bits.{number, part}
+use Rattle.rules.specs.Values.{is-zero}
+use Rattle.bits.specs.Bits.{number}
 use Rattle.rules.specs.declared.steps.Window.{Window}
 use Rattle.rules.specs.declared.steps.Got.{Got}
 use Rattle.rules.specs.declared.steps.Header.{Header}
-use Rattle.rules.specs.Steps.{aligned, natural, element, mapped, size-bytes, sized, taken, enough, at-least, at-most, signed, header, at-end, next-multiple}
-use Rattle.records.specs.declared.statements.Statement.{Statement}
-use Rattle.records.specs.declared.statements.Statement.the-variants.{Read, Assign, MapRead, Use, If, While, Unknown}
-use Rattle.records.specs.Statements.{statement}
+use Rattle.rules.specs.Steps.{aligned, natural, element, mapped, size-bytes, sized, taken, enough, header, next-multiple}
 use Rattle.rules.specs.declared.lines.ReadLine.{ReadLine}
 use Rattle.rules.specs.declared.lines.UseLine.{UseLine}
 use Rattle.rules.specs.Code.{Code, finish, read, assign, map-read, use-of, branch, while, code}
 use Rattle.rules.specs.Reading.{State, Object, Objects, write, all-zero, moved, after-read, after-object, value-item, open-item, close-item, valued, counted, elements, objects, enough-objects, objects-to-end, used, rounds, run, stretch, extensions, content, inner, closed}
-use Rattle.rules.specs.Tidy.{closable, opened-by, object-by, reading-by}
+use Rattle.rules.specs.Tidy.{closable, opened-by, object-by}
 use Rattle.roundtrip.specs.Standing.{Fam, Local-law}
-use Rattle.roundtrip.proofs.Numbers.{decide, of-true}
-use Rattle.roundtrip.proofs.Again.{then-ok, ensure-ok, via, ok-same, aligned-facts, taken-facts}
-use Rattle.roundtrip.proofs.Sizes.{Header-again, header-again, size-read}
+use Rattle.roundtrip.proofs.Again.{ensure-ok, via, ok-same, aligned-facts, taken-facts}
+use Rattle.roundtrip.proofs.Sizes.{size-read}
 
 abbrev pub place-of : State → ℕ
 place-of s = s .place

@@ -1,15 +1,13 @@
 -- The tidy reading goes as the plain one does, up to the first item that is not neat.
-use Rattle.rules.specs.declared.faults.ReadingCause.{ReadingCause}
-use Rattle.rules.specs.declared.faults.ReadingCause.the-variants.{SourceEnds, ObjectEnds, SkippedBits, UnknownId, TooFew, BitsLeft, WidthOrCount, TooManyRounds}
+use Rattle.rules.specs.declared.faults.ReadingCause.the-variants.{UnknownId, BitsLeft}
 use mathlib.Core.Path.{_≡_, refl, sym, _∙_, ap, subst}
 use mathlib.Core.Bool.{Bool, true, false, cond, not, _||_, _&&_}
-use mathlib.Core.List.{List, [], _∷_, _++_}
-use mathlib.Core.Logic.{_⊎_, inl, inr}
+use mathlib.Core.List.{List, [], _∷_}
 use Prim.Native.Nat.{ℕ, zero, suc, _+_, _-_, _*_, _/_, _%_, _^_, _≤_, _<_}
 use native.Mathlib.Omega.{arith}
-use lib.Dec.{T, T-not, leb, ltb, eqb, leb→le, le→leb, ltb→lt, nltb→le, eqb→eq, eqb-refl, eqb·suc-zero}
+use lib.Dec.{T, leb, ltb, eqb, ltb→lt, nltb→le, eqb→eq, eqb-refl, eqb·suc-zero}
 use lib.Pow.{pow-pos}
-use lib.IntN.{ℤ, pos, natAbs}
+use lib.IntN.{ℤ}
 use lib.ListN.{length, take, drop, getD, List·getD-eq-default}
 use lib.Seq.{drop-cons}
 use Rattle.std.specs.declared.result.Result.the-variants.{Ok, Err}
@@ -17,37 +15,33 @@ use Rattle.records.specs.declared.records.Class.{Class}
 use Rattle.rules.specs.declared.faults.ReadingFault.{ReadingFault}
 use Rattle.records.specs.declared.records.Extension.{Extension}
 use Rattle.rules.specs.declared.items.Item.{Item}
-use Rattle.rules.specs.declared.items.Kind.the-variants.{Value, Open, Close}
 use Rattle.rules.specs.Trace.{Run, out, pass, stop, done, bind}
-use Rattle.rules.specs.Checks.{Check, then, ensure, pick, attempt, fault}
-use Rattle.table.specs.Description.{Description, class-at, line-at, map-at}
-use Rattle.rules.specs.Lookups.{greatest, object-class, map-output}
-use Rattle.rules.specs.Values.{Names, value, is-zero}
-use Rattle.bits.specs.Bits.{bit-value, number, part, bits-of, length-bits-of}
+use Rattle.rules.specs.Checks.{Check, ensure, pick, attempt}
+use Rattle.table.specs.Description.{Description, class-at, map-at}
+use Rattle.rules.specs.Lookups.{greatest, object-class}
+use Rattle.rules.specs.Values.{value, is-zero}
+use Rattle.bits.specs.Bits.{bit-value, number, part, length-bits-of}
 use Rattle.rules.specs.declared.steps.Window.{Window}
 use Rattle.rules.specs.declared.steps.Got.{Got}
 use Rattle.rules.specs.declared.steps.Header.{Header}
-use Rattle.rules.specs.Steps.{aligned, natural, element, mapped, size-bytes, sized, taken, enough, header, at-end, next-multiple}
-use Rattle.records.specs.declared.statements.Statement.{Statement}
-use Rattle.records.specs.declared.statements.Statement.the-variants.{Read, Assign, MapRead, Use, If, While, Unknown}
-use Rattle.records.specs.Statements.{statement}
+use Rattle.rules.specs.Steps.{aligned, size-bytes, sized, header, at-end, next-multiple}
 use Rattle.rules.specs.declared.lines.ReadLine.{ReadLine}
 use Rattle.rules.specs.declared.lines.UseLine.{UseLine}
 use Rattle.rules.specs.Code.{Code, finish, read, assign, map-read, use-of, branch, while, code}
-use Rattle.rules.specs.Reading.{State, Object, Objects, write, all-zero, moved, after-read, after-object, value-item, open-item, close-item, valued, counted, elements, objects, enough-objects, objects-to-end, used, rounds, run, stretch, extensions, content, inner, closed}
+use Rattle.rules.specs.Reading.{State, Object, Objects, write, all-zero, moved, after-read, after-object, value-item, open-item, close-item, elements, objects, enough-objects, objects-to-end, used, rounds, run, extensions, content, inner, closed}
 use Rattle.rules.specs.Tidy.{closable, opened-by, object-by, reading-by}
-use Rattle.roundtrip.specs.Own.{complement, lowest-index, value-bits, header-bits, own-bits, end-of}
+use Rattle.roundtrip.specs.Own.{complement, header-bits, own-bits, end-of}
 use Rattle.rules.specs.Order.{declared-at}
 use Rattle.rules.specs.Steps.{id-width}
 use Rattle.roundtrip.specs.Standing.{Zeros, Has, Fits}
 use Rattle.roundtrip.specs.Writing.{Straight}
-use Rattle.roundtrip.specs.Rule.{Closes, Neat}
+use Rattle.roundtrip.specs.Rule.{Neat}
 use Rattle.rules.specs.Order.{Bytes}
-use Rattle.roundtrip.proofs.Numbers.{true-of, false-of, of-true, both, with-both, decide, zeros-number, multiple-above}
-use Rattle.roundtrip.proofs.Again.{then-ok, then-to, ensure-ok, to-ensure, via, ok-same, aligned-is, aligned-facts, taken-facts, Element-again, element-again, Mapped-again, mapped-again}
-use Rattle.roundtrip.proofs.Sizes.{Header-again, header-again, byte-cases, never}
-use Rattle.roundtrip.proofs.Lifted.{read-own, map-own, inner-facts, closed-facts}
-use Rattle.roundtrip.proofs.Local.{element-after, mapped-after, header-after}
+use Rattle.roundtrip.proofs.Numbers.{of-true, both, with-both, decide, zeros-number, multiple-above}
+use Rattle.roundtrip.proofs.Again.{ensure-ok, via, ok-same, aligned-is, aligned-facts, element-again, mapped-again}
+use Rattle.roundtrip.proofs.Sizes.{header-again, byte-cases, never}
+use Rattle.roundtrip.proofs.Lifted.{read-own, map-own, inner-facts}
+use Rattle.roundtrip.proofs.Local.{header-after}
 use Rattle.roundtrip.proofs.Lines.{Tells, code-tells}
 use Rattle.rules.proofs.Same.{reads, uses, Each}
 

@@ -2,16 +2,14 @@
 use mathlib.Core.Path.{_≡_, refl, sym, _∙_, ap, subst}
 use mathlib.Core.Bool.{Bool, true, false, cond, not, _&&_}
 use mathlib.Core.List.{List, [], _∷_, _++_}
-use mathlib.Core.Logic.{_⊎_, inl, inr}
-use Prim.Native.Nat.{ℕ, zero, suc, _+_, _-_, _*_, _/_, _%_, _^_, _≤_, _<_}
+use Prim.Native.Nat.{ℕ, zero, suc, _+_, _-_, _*_, _/_, _^_, _≤_, _<_}
 use native.Mathlib.Omega.{arith}
 use native.Mathlib.Nat.{mod-eq-of-lt, mod-lt, div-add-mod'}
-use lib.Dec.{T, leb, ltb, eqb, leb→le, le→leb, nleb→lt, ltb→lt, lt→ltb, nltb→le, eqb→eq, eqb-refl, eqb·suc-zero}
-use lib.IntN.{ℤ, pos, negsuc, _-ℤ_, subℕ}
-use lib.ListN.{length, take, drop, getD, length-append, length-take, drop-of-length-le}
-use lib.Pow.{pow-pos, pow-mono}
-use lib.Seq.{drop-cons, drop-nil, take-nil}
-use lib.Signed.{leZ}
+use lib.Dec.{T, leb, ltb, leb→le, le→leb, ltb→lt, lt→ltb, nltb→le, eqb·suc-zero}
+use lib.IntN.{ℤ, pos, negsuc, _-ℤ_}
+use lib.ListN.{length, take, drop, length-take, drop-of-length-le}
+use lib.Pow.{pow-mono}
+use lib.Seq.{drop-cons}
 use Rattle.bits.proofs.Numbers.{number-bits-of}
 use Rattle.bits.specs.Bits.{bits-of, bit-value, number, part}
 use Rattle.rules.specs.Steps.{signed, next-multiple}

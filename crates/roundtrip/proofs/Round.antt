@@ -1,18 +1,17 @@
 -- A writing, put by put: what lies ahead of it, over any bits that begin with what is written.
 use mathlib.Core.Path.{_≡_, refl, sym, _∙_, ap, subst}
-use mathlib.Core.Bool.{Bool, true, false, cond, not}
+use mathlib.Core.Bool.{Bool, false}
 use mathlib.Core.List.{List, [], _∷_, _++_, append-assoc}
 use mathlib.Core.Logic.{_⊎_, inl, inr}
-use Prim.Native.Nat.{ℕ, zero, suc, _+_, _-_, _≤_, _<_}
+use Prim.Native.Nat.{ℕ, _-_, _≤_}
 use native.Mathlib.Omega.{arith}
 use lib.ListN.{length, drop, replicate, length-append, length-replicate}
 use Rattle.rules.specs.declared.items.Item.{Item}
-use Rattle.rules.specs.declared.faults.ReadingFault.{ReadingFault}
-use Rattle.rules.specs.Trace.{Run, out, pass, stop, done, items, outcome, Outcome, ended, refused}
+use Rattle.rules.specs.Trace.{Run, out, pass, stop, done, items, outcome, ended}
 use Rattle.table.specs.Description.{Description}
 use Rattle.rules.specs.Tidy.{reading-by}
 use Rattle.roundtrip.specs.Own.{own-bits, end-of, pending, Sensible}
-use Rattle.roundtrip.specs.Standing.{Head, gives, halts, ends, head, Halted, Fam, Zeros, Has, Fits, Leads, here, next, Stands, stuck, quiet, hands}
+use Rattle.roundtrip.specs.Standing.{Head, gives, halts, ends, head, Halted, Fam, Zeros, Fits, Leads, here, next, Stands, stuck, quiet, hands}
 use Rattle.roundtrip.specs.Writing.{Straight, Can-follow, Written, fresh, put, Writes, Writing-law, appended, Ahead, Tests, Test-law}
 use Rattle.rules.specs.Growth.{Begins}
 use Rattle.roundtrip.proofs.Lifted.{standing-law}

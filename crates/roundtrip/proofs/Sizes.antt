@@ -1,28 +1,23 @@
 -- An object's beginning: the id, and a size in the fewest bytes.
-use mathlib.Core.Path.{_≡_, refl, sym, _∙_, ap, subst}
-use mathlib.Core.Bool.{Bool, true, false, cond, not, _&&_}
-use mathlib.Core.List.{List, [], _∷_, _++_}
-use mathlib.Core.Logic.{_⊎_, inl, inr}
-use Prim.Native.Nat.{ℕ, zero, suc, _+_, _-_, _*_, _/_, _%_, _^_, _≤_, _<_}
+use mathlib.Core.Path.{_≡_, refl, _∙_, ap, subst}
+use mathlib.Core.Bool.{Bool, true, false, cond, not}
+use mathlib.Core.List.{List, [], _++_}
+use Prim.Native.Nat.{ℕ, zero, suc, _+_, _*_, _/_, _%_, _^_, _≤_, _<_}
 use native.Mathlib.Omega.{arith}
-use lib.Dec.{T, leb, ltb, eqb, leb→le, le→leb, nleb→lt, ltb→lt, lt→ltb, nltb→le, eqb→eq, eqb-refl, T-not}
-use lib.IntN.{ℤ, pos, negsuc, _-ℤ_, natAbs}
-use lib.ListN.{length, take, drop, getD, length-append}
-use Rattle.std.specs.declared.result.Result.the-variants.{Ok, Err}
+use lib.Dec.{T, leb, ltb, eqb, leb→le, le→leb, ltb→lt, lt→ltb, nltb→le}
+use lib.ListN.{length, length-append}
+use Rattle.std.specs.declared.result.Result.the-variants.{Ok}
 use Rattle.records.specs.declared.records.Class.{Class}
-use Rattle.rules.specs.Checks.{Check, then, fails, ensure, pick}
-use Rattle.records.specs.Classes.{is-base}
-use Rattle.bits.specs.Bits.{number, part, bits-of, length-bits-of}
+use Rattle.rules.specs.Checks.{pick}
+use Rattle.bits.specs.Bits.{bits-of, length-bits-of}
 use Rattle.rules.specs.declared.steps.Window.{Window}
-use Rattle.rules.specs.declared.steps.Got.{Got}
 use Rattle.rules.specs.declared.steps.Header.{Header}
-use Rattle.rules.specs.Steps.{enough, next-multiple, aligned, taken, natural, signed, at-least, at-most, element, mapped, size-bytes, sized, header}
-use Rattle.rules.specs.Values.{same}
-use Rattle.roundtrip.specs.Own.{complement, size-code, gives-value, first-such, lowest-index, size-bits, header-bits}
+use Rattle.rules.specs.Steps.{aligned, taken, size-bytes, sized, header}
+use Rattle.roundtrip.specs.Own.{size-code, size-bits, header-bits}
 use Rattle.rules.specs.Steps.{id-width}
 use Rattle.roundtrip.specs.Standing.{Zeros, Has}
-use Rattle.roundtrip.proofs.Numbers.{true-of, false-of, of-true, both, with-both, decide, number-of-bits, number-bound, part-bound, has-part, has-append, zeros-number, complement-value, same-eq, same-refl, multiple-above}
-use Rattle.roundtrip.proofs.Again.{Via, then-ok, then-to, ensure-ok, to-ensure, via, ok-same, Aligned, aligned-facts, aligned-again, taken-facts, taken-has}
+use Rattle.roundtrip.proofs.Numbers.{true-of, of-true, has-append}
+use Rattle.roundtrip.proofs.Again.{then-to, ensure-ok, to-ensure, via, ok-same, aligned-facts, aligned-again, taken-facts, taken-has}
 
 -- the forms of a size
 data Code-of (s : ℕ) : List Bool → Type 0 where

@@ -1,9 +1,9 @@
 -- Where a writing stands: what a reading does from a place on, over any bits of its length.
 use mathlib.Core.Path.{_≡_}
-use mathlib.Core.Bool.{Bool, true, false}
+use mathlib.Core.Bool.{Bool, false}
 use mathlib.Core.List.{List, [], _∷_}
 use mathlib.Core.Logic.{_⊎_}
-use Prim.Native.Nat.{ℕ, suc, _+_, _≤_, _<_}
+use Prim.Native.Nat.{ℕ, suc, _≤_, _<_}
 use lib.ListN.{length, getD, drop}
 use Rattle.rules.specs.declared.items.Item.{Item}
 use Rattle.rules.specs.declared.faults.ReadingFault.{ReadingFault}

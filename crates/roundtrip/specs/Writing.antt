@@ -14,7 +14,7 @@ use Rattle.table.specs.Description.{Description, line-at}
 use Rattle.rules.specs.Tidy.{reading-by}
 use Rattle.roundtrip.specs.Own.{own-bits, end-of, pending, Sensible}
 use Rattle.rules.specs.Trace.{Run}
-use Rattle.roundtrip.specs.Standing.{Head, head, gives, Fam, Fits, Leads, Stands}
+use Rattle.roundtrip.specs.Standing.{head, gives, Fam, Fits, Leads, Stands}
 
 -- above 0 where a line looks ahead
 abbrev pub looks-ahead : Statement → ℕ

@@ -1,37 +1,33 @@
 -- Of a run of hidden lines nothing is left, and it writes only new names where it stands in an older object.
 use mathlib.Core.Path.{_≡_, refl, sym, _∙_, ap, subst}
-use mathlib.Core.Bool.{Bool, true, false, cond, not, _||_, _&&_}
-use mathlib.Core.List.{List, [], _∷_, _++_}
+use mathlib.Core.Bool.{Bool, true, false, cond}
+use mathlib.Core.List.{List, [], _∷_}
 use mathlib.Core.Logic.{_⊎_, inl, inr}
-use Prim.Native.Nat.{ℕ, zero, suc, pred, _+_, _-_, _*_, _≤_, _<_, min}
+use Prim.Native.Nat.{ℕ, zero, suc, _≤_, _<_}
 use native.Mathlib.Omega.{arith}
-use lib.Dec.{T, ltb, leb, eqb, ltb→lt, eqb→eq}
-use lib.IntN.{ℤ, pos}
+use lib.Dec.{T, leb, eqb, eqb→eq}
+use lib.IntN.{ℤ}
 use lib.ListN.{length}
-use Rattle.records.specs.declared.records.Line.{Line}
 use Rattle.records.specs.declared.records.Extension.{Extension}
-use Rattle.rules.specs.Trace.{Run, out, pass, stop, done, bind}
-use Rattle.rules.specs.Checks.{Check, pick, attempt, ensure}
-use Rattle.table.specs.Description.{Description, class-at, entry, no-line, map-at}
-use Rattle.rules.specs.Lookups.{object-class, greatest, map-output}
+use Rattle.rules.specs.Trace.{Run}
+use Rattle.rules.specs.Checks.{Check}
+use Rattle.table.specs.Description.{Description}
+use Rattle.rules.specs.Lookups.{greatest}
 use Rattle.rules.specs.Values.{Names, is-zero}
-use Rattle.rules.specs.declared.steps.Window.{Window}
-use Rattle.rules.specs.declared.steps.Got.{Got}
 use Rattle.rules.specs.declared.steps.Header.{Header}
-use Rattle.rules.specs.Steps.{element, mapped, natural, aligned, header, next-multiple}
+use Rattle.rules.specs.declared.steps.Window.{Window}
+use Rattle.rules.specs.Steps.{next-multiple}
 use Rattle.records.specs.declared.statements.Statement.{Statement}
-use Rattle.records.specs.declared.statements.Statement.the-variants.{Read, Assign, MapRead, Use, If, While, Unknown}
-use Rattle.records.specs.Statements.{statement}
-use Rattle.rules.specs.declared.lines.ReadLine.{ReadLine}
+use Rattle.records.specs.declared.statements.Statement.the-variants.{Assign, MapRead, If, While}
 use Rattle.rules.specs.declared.lines.UseLine.{UseLine}
-use Rattle.rules.specs.Code.{Code, finish, read, assign, map-read, use-of, branch, while, written, code-within, code}
-use Rattle.rules.specs.Reading.{State, Object, Objects, write, moved, after-read, after-object, value-item, open-item, close-item, valued, counted, elements, objects, enough-objects, objects-to-end, used, rounds, run, stretch, extensions, content, inner, closed, all-zero}
+use Rattle.rules.specs.declared.lines.ReadLine.{ReadLine}
+use Rattle.rules.specs.Code.{Code, finish, read, assign, map-read, use-of, branch, while, written, code}
+use Rattle.rules.specs.Reading.{State, Object, Objects, write, moved, after-read, after-object, elements, objects, enough-objects, objects-to-end, used, rounds, run, extensions, content, all-zero}
 use Rattle.rules.specs.Tidy.{opened-by, object-by}
-use Rattle.rules.specs.Growth.{Grown}
-use Rattle.checked.specs.Sound.{Sound, All}
-use Rattle.rules.proofs.Follow.{Hidden, Blank, ends, refuses, hidden, quiet, blank-bind, blank-attempt, blank-pick, above-false, false-of}
+use Rattle.checked.specs.Sound.{All}
+use Rattle.rules.proofs.Follow.{Hidden, Blank, ends, refuses, hidden, quiet, blank-bind, blank-attempt, blank-pick}
 use Rattle.rules.proofs.Struck.{hide-value, hide-open, open-deeper, hide-close, value-deeper, close-deeper}
-use Rattle.rules.proofs.Same.{reads, uses, Each, each-all, code-each}
+use Rattle.rules.proofs.Same.{reads, uses, Each, each-all}
 
 pub unequal : (m n : ℕ) → m < n → eqb m n ≡ false
 unequal m n h = go (eqb m n) refl

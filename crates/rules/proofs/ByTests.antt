@@ -1,12 +1,12 @@
 -- What the tests say.
 use mathlib.Core.Path.{_≡_, refl, sym, _∙_, ap, subst}
-use mathlib.Core.Bool.{Bool, true, false, cond, not, _||_, _&&_}
+use mathlib.Core.Bool.{Bool, true, false, not, _||_, _&&_}
 use mathlib.Core.List.{List, [], _∷_, _++_}
-use mathlib.Core.Logic.{_⊎_, inl, inr, _≢_}
-use Prim.Native.Nat.{ℕ, zero, suc, _+_, _-_, _≤_, _<_}
+use mathlib.Core.Logic.{_⊎_, inl, inr}
+use Prim.Native.Nat.{ℕ, zero, suc, _-_, _≤_, _<_}
 use native.Mathlib.Omega.{arith}
-use lib.Dec.{T, T-not, leb, ltb, eqb, eqb→eq, eqb-refl, leb→le, ltb→lt, nltb→le, lt→ltb, le→leb}
-use lib.ListN.{length, getD, drop, length-drop, List·getD-eq-default}
+use lib.Dec.{T, leb, ltb, eqb, eqb→eq, ltb→lt, le→leb}
+use lib.ListN.{length, getD, drop, length-drop}
 use lib.Seq.{getD-drop}
 use Rattle.records.specs.declared.records.Class.{Class}
 use Rattle.records.specs.declared.records.Name.{Name}
@@ -15,11 +15,9 @@ use Rattle.records.specs.declared.records.Line.{Line}
 use Rattle.records.specs.declared.records.Node.{Node}
 use Rattle.records.specs.declared.records.Map.{Map}
 use Rattle.records.specs.declared.records.Row.{Row}
-use Rattle.records.specs.Classes.{is-base, is-member}
-use Rattle.table.specs.Description.{Description, entry, no-line, no-class, class-at, line-at, node-at, map-at}
+use Rattle.records.specs.Classes.{is-member}
+use Rattle.table.specs.Description.{Description, entry, no-line, class-at, line-at}
 use Rattle.rules.specs.Lookups.{greatest}
-use Rattle.records.specs.declared.statements.Statement.{Statement}
-use Rattle.records.specs.declared.statements.Statement.the-variants.{Read, Assign, MapRead, Use, If, While, Unknown}
 use Rattle.records.specs.Statements.{statement}
 use Rattle.rules.specs.Code.{written}
 use Rattle.rules.specs.Growth.{Begins, Grown}

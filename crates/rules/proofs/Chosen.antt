@@ -1,9 +1,9 @@
 -- The class of an object by the older and by the newer description.
 use mathlib.Core.Path.{_≡_, refl, sym, _∙_, ap, subst}
-use mathlib.Core.Bool.{Bool, true, false, cond, not, _||_, _&&_}
+use mathlib.Core.Bool.{Bool, true, false, cond, not, _&&_}
 use mathlib.Core.List.{List, [], _∷_, _++_}
 use mathlib.Core.Logic.{_⊎_, inl, inr}
-use Prim.Native.Nat.{ℕ, zero, suc, pred, _+_, _≤_, _<_}
+use Prim.Native.Nat.{ℕ, zero, suc, _+_, _≤_, _<_}
 use native.Mathlib.Omega.{arith}
 use lib.Dec.{T, eqb, eqb→eq}
 use lib.ListN.{length, getD}
@@ -12,7 +12,7 @@ use Rattle.records.specs.Classes.{is-base, is-member}
 use Rattle.table.specs.Description.{Description, entry, no-class, class-at}
 use Rattle.rules.specs.Lookups.{greatest, has-id, member-with, one-later, first-member, object-class}
 use Rattle.rules.specs.Growth.{Grown}
-use Rattle.checked.specs.Sound.{Sound, All}
+use Rattle.checked.specs.Sound.{All}
 use Rattle.rules.proofs.Same.{class-same}
 
 and-left : (a b : Bool) → T (a && b) → T a

@@ -1,14 +1,14 @@
 -- What holds where a step goes through.
 use mathlib.Core.Path.{_≡_, refl, sym, _∙_, ap, subst}
 use mathlib.Core.Bool.{Bool, true, false, cond, not, _&&_}
-use mathlib.Core.List.{List, [], _∷_}
+use mathlib.Core.List.{List}
 use Prim.Native.Nat.{ℕ, zero, suc, _+_, _-_, _*_, _/_, _%_, _^_, _≤_, _<_}
 use native.Mathlib.Omega.{arith}
 use native.Mathlib.Nat.{mod-lt, div-add-mod', pow-succ'}
 use lib.Dec.{T, leb, ltb, eqb, leb→le, ltb→lt, nleb→lt, nltb→le, lt→ltb, eqb·suc-zero}
 use lib.IntN.{ℤ, pos, negsuc, _-ℤ_, natAbs}
 use lib.ListN.{length, take, drop, length-take}
-use lib.Pow.{pow-mono, pow-pos}
+use lib.Pow.{pow-mono}
 use lib.Signed.{leZ}
 use Rattle.std.specs.declared.result.Result.the-variants.{Ok, Err}
 use Rattle.records.specs.declared.records.Class.{Class}
@@ -17,10 +17,10 @@ use Rattle.bits.proofs.Numbers.{number-lt}
 use Rattle.rules.specs.declared.faults.ReadingCause.{ReadingCause}
 use Rattle.rules.specs.Checks.{Check, then, ensure, pick}
 use Rattle.rules.specs.declared.lines.ReadLine.{ReadLine}
-use Rattle.rules.specs.declared.steps.Window.{Window}
-use Rattle.rules.specs.declared.steps.Got.{Got}
 use Rattle.rules.specs.declared.steps.Header.{Header}
-use Rattle.rules.specs.Steps.{enough, next-multiple, aligned, taken, natural, signed, element, mapped, size-bytes, sized, id-width, header}
+use Rattle.rules.specs.declared.steps.Got.{Got}
+use Rattle.rules.specs.declared.steps.Window.{Window}
+use Rattle.rules.specs.Steps.{next-multiple, aligned, taken, natural, signed, element, mapped, size-bytes, sized, id-width, header}
 use Rattle.rules.specs.Order.{Within-bits}
 use Rattle.rules.proofs.Follow.{true-of}
 

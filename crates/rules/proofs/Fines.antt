@@ -1,49 +1,45 @@
 -- Every fault of a reading has a number of the rules.
-use mathlib.Core.Path.{_≡_, refl, sym, _∙_, ap, subst}
+use mathlib.Core.Path.{_≡_, refl, sym, ap, subst}
 use mathlib.Core.Bool.{Bool, true, false, cond, not, _||_, _&&_}
-use mathlib.Core.List.{List, [], _∷_, _++_}
-use mathlib.Core.Logic.{_⊎_, inl, inr, _≢_}
-use Prim.Native.Nat.{ℕ, zero, suc, pred, _+_, _-_, _*_, _/_, _%_, _^_, _≤_, _<_}
+use mathlib.Core.List.{List, [], _∷_}
+use mathlib.Core.Logic.{_⊎_, inl, inr}
+use Prim.Native.Nat.{ℕ, zero, suc, _+_, _^_, _≤_, _<_}
 use native.Mathlib.Omega.{arith}
-use lib.Dec.{T, T-not, leb, ltb, eqb, eqb→eq, eqb-refl, lt→ltb, ltb→lt, nltb→le, lit≤}
+use lib.Dec.{T, T-not, leb, ltb, eqb, eqb→eq, lt→ltb, ltb→lt, nltb→le, lit≤}
 use lib.Bits.{bitAnd, bitOr}
-use lib.IntN.{ℤ, pos, negsuc, natAbs, _+ℤ_, _-ℤ_, _*ℤ_}
-use lib.Signed.{leZ, ltZ, quotZ, remZ, shrZ}
+use lib.IntN.{ℤ, pos, natAbs, _+ℤ_, _-ℤ_, _*ℤ_}
+use lib.Signed.{ltZ, quotZ, remZ, shrZ}
 use lib.ListN.{length, getD, List·getD-eq-default}
-use Rattle.std.specs.declared.result.Result.{Result}
 use Rattle.std.specs.declared.result.Result.the-variants.{Ok, Err}
 use Rattle.rules.specs.declared.faults.ReadingFault.{ReadingFault}
 use Rattle.rules.specs.declared.faults.Failure.{Failure}
 use Rattle.rules.specs.declared.items.Item.{Item}
-use Rattle.records.specs.declared.records.Line.{Line}
-use Rattle.records.specs.declared.records.Node.{Node}
 use Rattle.records.specs.declared.records.Class.{Class}
 use Rattle.records.specs.declared.records.Extension.{Extension}
 use Rattle.rules.specs.Trace.{Run, out, pass, stop, done, bind, outcome, Outcome, ended, refused}
-use Rattle.rules.specs.Checks.{Check, then, fails, ensure, pick, attempt}
+use Rattle.rules.specs.Checks.{Check, then, ensure, pick, attempt}
 use Rattle.records.specs.Classes.{is-base, is-member}
-use Rattle.table.specs.Description.{Description, entry, no-class, class-at, line-at, node-at, row-at, map-at}
-use Rattle.rules.specs.Lookups.{output, has-id, greatest, first-member, object-class, find-row, map-output}
+use Rattle.table.specs.Description.{Description, entry, no-class, class-at, line-at, node-at, row-at}
+use Rattle.rules.specs.Lookups.{has-id, greatest, first-member, object-class, find-row}
 use Rattle.rules.specs.declared.faults.ReadingCause.{ReadingCause}
-use Rattle.rules.specs.declared.faults.ReadingCause.the-variants.{Unchecked, SourceEnds, ObjectEnds, SkippedBits, OutsideBounds, NoSuchIndex, UnknownId, Size, PastWindow, TooFew, BitsLeft, OutOfRange, ZeroDivisor, BadOperand, WidthOrCount, TooManyRounds}
+use Rattle.rules.specs.declared.faults.ReadingCause.the-variants.{SourceEnds, ObjectEnds, SkippedBits, OutsideBounds, UnknownId, Size, PastWindow, TooFew, BitsLeft, OutOfRange, ZeroDivisor, BadOperand, WidthOrCount, TooManyRounds}
 use Rattle.rules.specs.declared.terms.Operator.{Operator}
 use Rattle.rules.specs.declared.terms.Operator.the-variants.{Multiply, Divide, Remainder, Add, Subtract, ShiftLeft, ShiftRight, Less, AtMost, Greater, AtLeast, Equal, Unequal, BitAnd, BitOr, And, Or}
 use Rattle.rules.specs.declared.terms.Term.{Term}
 use Rattle.rules.specs.declared.terms.Term.the-variants.{Constant, Named, OwnSize, Apply, NoTerm}
 use Rattle.rules.specs.Terms.{term}
 use Rattle.rules.specs.Values.{Names, Worked, in-range, applied, ranged, divided, shifted, bitwise, is-zero, of-node, term-value, before, value-within, value}
-use Rattle.bits.specs.Bits.{number, part}
-use Rattle.rules.specs.declared.steps.Window.{Window}
-use Rattle.rules.specs.declared.steps.Got.{Got}
+use Rattle.bits.specs.Bits.{number}
 use Rattle.rules.specs.declared.steps.Header.{Header}
+use Rattle.rules.specs.declared.steps.Window.{Window}
 use Rattle.rules.specs.Steps.{enough, aligned, taken, natural, at-least, at-most, element, mapped, size-bytes, sized, header, at-end, next-multiple, signed}
 use Rattle.records.specs.declared.statements.Statement.{Statement}
 use Rattle.records.specs.declared.statements.Statement.the-variants.{Read, Assign, MapRead, Use, If, While, Unknown}
 use Rattle.records.specs.Statements.{statement}
-use Rattle.rules.specs.declared.lines.ReadLine.{ReadLine}
 use Rattle.rules.specs.declared.lines.UseLine.{UseLine}
-use Rattle.rules.specs.Code.{Code, finish, read, assign, map-read, use-of, branch, while, code-within, code}
-use Rattle.rules.specs.Reading.{State, Object, Objects, valued, counted, elements, objects, enough-objects, objects-to-end, used, rounds, run, stretch, extensions, content, reading, after-read, after-object, moved}
+use Rattle.rules.specs.declared.lines.ReadLine.{ReadLine}
+use Rattle.rules.specs.Code.{Code, finish, read, assign, map-read, use-of, branch, while, code}
+use Rattle.rules.specs.Reading.{State, Object, Objects, valued, counted, elements, objects, enough-objects, objects-to-end, used, rounds, run, stretch, extensions, content}
 use Rattle.rules.specs.Tidy.{opened-by, object-by, reading-by}
 use Rattle.checked.specs.Sound.{All}
 use Rattle.rules.specs.Ranks.{Known, Faults-known}

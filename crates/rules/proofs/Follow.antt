@@ -3,19 +3,17 @@ use mathlib.Core.Path.{_≡_, refl, sym, _∙_, ap, subst}
 use mathlib.Core.Bool.{Bool, true, false, cond, not, _||_}
 use mathlib.Core.List.{List, [], _∷_, _++_}
 use mathlib.Core.Logic.{_⊎_, inl, inr}
-use Prim.Native.Nat.{ℕ, zero, suc, pred, _+_, _≤_, _<_}
+use Prim.Native.Nat.{ℕ, zero, _≤_, _<_}
 use native.Mathlib.Omega.{arith}
-use lib.Dec.{T, ltb, lt→ltb, ltb→lt, nltb→le}
+use lib.Dec.{T, ltb, lt→ltb, ltb→lt}
 use lib.ListN.{length}
 use Rattle.std.specs.declared.result.Result.the-variants.{Ok, Err}
 use Rattle.rules.specs.declared.items.Item.{Item}
 use Rattle.rules.specs.declared.faults.ReadingFault.{ReadingFault}
-use Rattle.rules.specs.declared.items.Kind.{Kind}
-use Rattle.rules.specs.declared.items.Kind.the-variants.{Value, Open, Close}
 use Rattle.rules.specs.Trace.{Run, out, pass, stop, done, bind, items, outcome, Outcome, ended, refused}
-use Rattle.rules.specs.Checks.{Check, attempt, fault, pick}
+use Rattle.rules.specs.Checks.{Check, attempt, pick}
 use Rattle.table.specs.Description.{Description}
-use Rattle.rules.specs.Growth.{new-line, new-class, deeper, left-of, strike, depth-after, lacked, Shorter, Compares, of-class-zero}
+use Rattle.rules.specs.Growth.{new-line, deeper, left-of, strike, depth-after, lacked, Shorter, Compares}
 
 pub true-of : (b : Bool) → T b → b ≡ true
 true-of true t = refl

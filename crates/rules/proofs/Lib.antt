@@ -18,3 +18,5 @@ pub mod Ranges
 pub mod Tidily
 pub mod NodeFacts
 pub mod WholeBytes
+pub mod Depths
+pub mod Equations

@@ -3,9 +3,9 @@ use mathlib.Core.Path.{_≡_, refl, sym, _∙_, ap, subst, subst₂}
 use mathlib.Core.Bool.{Bool, true, false, cond, not, _||_, _&&_}
 use mathlib.Core.List.{List, [], _∷_, _++_}
 use mathlib.Core.Logic.{_⊎_, inl, inr}
-use Prim.Native.Nat.{ℕ, zero, suc, pred, _+_, _-_, _*_, _≤_, _<_, min}
+use Prim.Native.Nat.{ℕ, zero, suc, _+_, _-_, _*_, _≤_, _<_}
 use native.Mathlib.Omega.{arith}
-use lib.Dec.{T, T-not, ltb, leb, le→leb, eqb, eqb→eq, eqb-refl}
+use lib.Dec.{T, T-not, leb, le→leb, eqb, eqb→eq, eqb-refl}
 use lib.ListN.{length}
 use Rattle.std.specs.declared.result.Result.the-variants.{Ok, Err}
 use Rattle.records.specs.declared.records.Class.{Class}
@@ -13,33 +13,30 @@ use Rattle.rules.specs.declared.faults.Failure.{Failure}
 use Rattle.rules.specs.declared.faults.ReadingCause.{ReadingCause}
 use Rattle.rules.specs.declared.faults.ReadingCause.the-variants.{SourceEnds, ObjectEnds, SkippedBits, UnknownId, BitsLeft}
 use Rattle.records.specs.declared.records.Extension.{Extension}
-use Rattle.rules.specs.Trace.{Run, out, pass, stop, done, bind, bind-assoc, items, outcome, ended}
+use Rattle.rules.specs.Trace.{Run, out, done, bind, bind-assoc, items, outcome, ended}
 use Rattle.rules.specs.Checks.{Check, then, pick, attempt, ensure}
 use Rattle.records.specs.Classes.{is-base}
 use Rattle.table.specs.Description.{Description, class-at}
 use Rattle.rules.specs.Lookups.{object-class, greatest}
 use Rattle.rules.specs.Values.{Names}
 use Rattle.bits.specs.Bits.{number, part}
-use Rattle.rules.specs.declared.steps.Window.{Window}
 use Rattle.rules.specs.declared.steps.Header.{Header}
+use Rattle.rules.specs.declared.steps.Window.{Window}
 use Rattle.rules.specs.Steps.{header, enough, aligned, at-end, next-multiple}
-use Rattle.records.specs.declared.statements.Statement.{Statement}
-use Rattle.records.specs.declared.statements.Statement.the-variants.{Read, Assign, MapRead, Use, If, While, Unknown}
-use Rattle.records.specs.Statements.{statement}
 use Rattle.rules.specs.Code.{code}
-use Rattle.rules.specs.Reading.{State, Object, Objects, moved, all-zero, open-item, close-item, extensions, content, inner, closed, reading, stretch}
+use Rattle.rules.specs.Reading.{State, Object, Objects, all-zero, close-item, extensions, content, inner, closed, stretch}
 use Rattle.rules.specs.Tidy.{closable, opened-by, object-by, tidy-reading, reading-by}
 use Rattle.rules.specs.Growth.{Grown, Compares, Growth-law, Copy-law}
 use Rattle.checked.specs.Sound.{Sound, All}
 use Rattle.checked.proofs.Sounds.{sound}
 use Rattle.rules.proofs.Plain.{plain-reading}
-use Rattle.rules.proofs.Follow.{Hidden, More, Blank, Follows, ends, refuses, shown, gives-up, new-pass, both-pass, follows-bind, blank-follows, follows-attempt, follows-pick, above-false, or-true, true-of, compares, copies}
+use Rattle.rules.proofs.Follow.{Hidden, More, Blank, Follows, ends, refuses, shown, gives-up, new-pass, both-pass, follows-bind, blank-follows, follows-attempt, or-true, true-of, compares, copies}
 use Rattle.rules.proofs.Struck.{show-open, show-open-deeper, show-close, show-close-deeper, mask-open, mask-open-deeper, mask-close, close-deeper}
 use Rattle.rules.proofs.Same.{class-same, greatest-same, code-each}
-use Rattle.rules.proofs.Blanks.{Hidden-line, Hidden-extension, Held, blank-extensions, blank-content, blank-object, unequal}
+use Rattle.rules.proofs.Blanks.{Hidden-line, Hidden-extension, blank-extensions, blank-content, blank-object}
 use Rattle.rules.proofs.Fresh.{fresh}
 use Rattle.rules.proofs.Chosen.{Chosen, chosen, chosen-greatest}
-use Rattle.rules.proofs.Runs.{at, Agree, Same, Left, FollowObjects, meet, follow-stretch}
+use Rattle.rules.proofs.Runs.{at, Agree, Left, FollowObjects, meet, follow-stretch}
 
 all-right : {A : Type 0} (P : A → Type 0) (xs ys : List A) → All P (xs ++ ys) → All P ys
 all-right P [] ys a = a

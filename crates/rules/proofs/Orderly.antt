@@ -1,38 +1,34 @@
 -- Every reading is orderly.
-use mathlib.Core.Path.{_≡_, refl, sym, _∙_, ap, subst}
-use mathlib.Core.Bool.{Bool, true, false, cond, not, _||_, _&&_}
-use mathlib.Core.List.{List, [], _∷_, _++_}
-use Prim.Native.Nat.{ℕ, zero, suc, _+_, _-_, _*_, _%_, _^_, _≤_, _<_}
+use mathlib.Core.Path.{_≡_, refl, sym, ap, subst}
+use mathlib.Core.Bool.{Bool, true, false, not}
+use mathlib.Core.List.{List, [], _∷_}
+use Prim.Native.Nat.{ℕ, zero, suc, _+_, _*_, _%_, _^_, _≤_, _<_}
 use native.Mathlib.Omega.{arith}
 use lib.Dec.{T, leb, eqb}
-use lib.IntN.{ℤ, pos}
+use lib.IntN.{ℤ}
 use lib.ListN.{length}
 use Rattle.std.specs.declared.result.Result.the-variants.{Ok, Err}
 use Rattle.records.specs.declared.records.Extension.{Extension}
 use Rattle.records.specs.declared.statements.Statement.{Statement}
-use Rattle.records.specs.declared.statements.Statement.the-variants.{Read, Assign, MapRead, Use, If, While, Unknown}
 use Rattle.records.specs.Statements.{statement}
-use Rattle.table.specs.Description.{Description, entry, no-line, class-at, line-at, map-at}
+use Rattle.table.specs.Description.{Description, entry, class-at, line-at, map-at}
 use Rattle.rules.specs.declared.items.Item.{Item}
 use Rattle.rules.specs.declared.items.Kind.{Kind}
 use Rattle.rules.specs.declared.items.Kind.the-variants.{Value, Open, Close}
-use Rattle.rules.specs.declared.faults.ReadingCause.the-variants.{UnknownId, TooFew, TooManyRounds}
-use Rattle.rules.specs.declared.faults.ReadingFault.{ReadingFault}
-use Rattle.rules.specs.Trace.{Run, out, pass, stop, done, bind, items, outcome, Outcome, ended, refused}
-use Rattle.rules.specs.Checks.{Check, ensure, pick, attempt}
+use Rattle.rules.specs.Trace.{Run, bind, items, outcome, Outcome, ended, refused}
+use Rattle.rules.specs.Checks.{Check, pick, attempt}
 use Rattle.rules.specs.Lookups.{greatest, object-class, map-output}
 use Rattle.rules.specs.Values.{is-zero}
-use Rattle.rules.specs.declared.lines.ReadLine.{ReadLine}
 use Rattle.rules.specs.declared.lines.UseLine.{UseLine}
+use Rattle.rules.specs.declared.lines.ReadLine.{ReadLine}
 use Rattle.rules.specs.Code.{Code, finish, read, assign, map-read, use-of, branch, while, code}
-use Rattle.rules.specs.declared.steps.Window.{Window}
-use Rattle.rules.specs.declared.steps.Got.{Got}
 use Rattle.rules.specs.declared.steps.Header.{Header}
-use Rattle.rules.specs.Steps.{aligned, natural, element, mapped, header, id-width, at-end, next-multiple}
-use Rattle.rules.specs.Reading.{State, Object, Objects, after-read, after-object, value-item, open-item, close-item, valued, counted, elements, objects, enough-objects, objects-to-end, used, rounds, run, stretch, extensions, content, inner, closed, opened, object, whole, reading, moved}
+use Rattle.rules.specs.declared.steps.Window.{Window}
+use Rattle.rules.specs.Steps.{next-multiple}
+use Rattle.rules.specs.Reading.{State, Object, Objects, after-read, after-object, open-item, elements, objects, enough-objects, objects-to-end, used, rounds, run, stretch, extensions, content, inner, closed, opened, object, whole, reading, moved}
 use Rattle.checked.specs.Sound.{All}
-use Rattle.rules.specs.Order.{used-by, declared-at, Bytes, Value-fits, On-byte, Fits, Repeats, extent, Moves, ends, stops, passes, value, opens, closes, Window-law, In-order, last-place, Nests, Orderly, Order-law}
-use Rattle.rules.proofs.Facts.{aligned-facts, element-facts, mapped-facts, header-facts, Begun}
+use Rattle.rules.specs.Order.{used-by, declared-at, Value-fits, Fits, extent, Moves, ends, stops, passes, value, opens, closes, Window-law, In-order, last-place, Nests, Order-law}
+use Rattle.rules.proofs.Facts.{aligned-facts, element-facts, mapped-facts, header-facts}
 use Rattle.rules.proofs.WholeBytes.{bytes}
 use Rattle.rules.proofs.Same.{reads, uses, Each, code-each}
 

@@ -1,17 +1,16 @@
 -- A reading that need not be tidy is the reading.
 use mathlib.Core.Path.{_≡_, refl, ap, _∙_}
-use mathlib.Core.Bool.{Bool, true, false, not, _||_}
+use mathlib.Core.Bool.{Bool, false, not, _||_}
 use mathlib.Core.List.{List}
 use Prim.Native.Nat.{ℕ, zero, suc}
 use lib.Dec.{eqb}
 use Rattle.table.specs.Description.{Description, class-at}
 use Rattle.rules.specs.declared.faults.ReadingCause.the-variants.{UnknownId}
-use Rattle.rules.specs.Trace.{Run, bind, done}
+use Rattle.rules.specs.Trace.{bind, done}
 use Rattle.rules.specs.Checks.{ensure, attempt}
 use Rattle.rules.specs.Lookups.{greatest, object-class}
-use Rattle.rules.specs.declared.steps.Window.{Window}
 use Rattle.rules.specs.Steps.{header, at-end}
-use Rattle.rules.specs.Reading.{State, Objects, opened, object, reading, whole}
+use Rattle.rules.specs.Reading.{Objects, opened, object, reading, whole}
 use Rattle.rules.specs.Tidy.{opened-by, object-by, reading-by}
 
 module _ (d : Description) (bits : List Bool) where

@@ -1,16 +1,16 @@
 -- What an operator gives lies in the range.
-use mathlib.Core.Path.{_≡_, refl, sym, subst}
+use mathlib.Core.Path.{_≡_, refl, subst}
 use mathlib.Core.Bool.{Bool, true, false, cond, not, _||_, _&&_}
-use Prim.Native.Nat.{ℕ, _^_}
+use Prim.Native.Nat.{_^_}
 use lib.Bits.{bitAnd, bitOr}
-use lib.IntN.{ℤ, pos, negsuc, natAbs, _+ℤ_, _-ℤ_, _*ℤ_}
+use lib.IntN.{ℤ, pos, natAbs, _+ℤ_, _-ℤ_, _*ℤ_}
 use lib.Signed.{leZ, ltZ, quotZ, remZ, shrZ}
 use Rattle.std.specs.declared.result.Result.the-variants.{Ok, Err}
 use Rattle.rules.specs.declared.faults.ReadingCause.{ReadingCause}
 use Rattle.rules.specs.declared.faults.ReadingCause.the-variants.{OutOfRange, ZeroDivisor, BadOperand}
 use Rattle.rules.specs.declared.terms.Operator.{Operator}
 use Rattle.rules.specs.declared.terms.Operator.the-variants.{Multiply, Divide, Remainder, Add, Subtract, ShiftLeft, ShiftRight, Less, AtMost, Greater, AtLeast, Equal, Unequal, BitAnd, BitOr, And, Or}
-use Rattle.rules.specs.Values.{Worked, in-range, ranged, divided, shifted, bitwise, flag, is-zero, same, applied, Operators-law}
+use Rattle.rules.specs.Values.{Worked, in-range, ranged, flag, is-zero, same, applied, Operators-law}
 
 abbrev Good : Worked → Type 0
 Good (Ok v) = in-range v ≡ true

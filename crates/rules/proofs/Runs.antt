@@ -1,34 +1,28 @@
 -- A run of an older line by the newer description follows its run by the older one.
-use mathlib.Core.Path.{_≡_, refl, sym, _∙_, ap, subst, fun-ext}
-use mathlib.Core.Bool.{Bool, true, false, cond, not, _||_, _&&_}
-use mathlib.Core.List.{List, [], _∷_, _++_}
+use mathlib.Core.Path.{_≡_, refl, sym, _∙_, ap, subst}
+use mathlib.Core.Bool.{Bool, cond}
+use mathlib.Core.List.{List}
 use mathlib.Core.Logic.{_⊎_, inl, inr}
-use Prim.Native.Nat.{ℕ, zero, suc, pred, _+_, _-_, _*_, _≤_, _<_, min}
+use Prim.Native.Nat.{ℕ, zero, suc, _+_, _≤_, _<_}
 use native.Mathlib.Omega.{arith}
-use lib.Dec.{T, ltb, leb, eqb}
-use lib.IntN.{ℤ, pos}
+use lib.Dec.{T, leb, eqb}
+use lib.IntN.{ℤ}
 use lib.ListN.{length}
-use Rattle.std.specs.declared.result.Result.the-variants.{Ok, Err}
-use Rattle.records.specs.declared.records.Line.{Line}
-use Rattle.rules.specs.Trace.{Run, out, pass, stop, done, bind}
-use Rattle.rules.specs.Checks.{Check, pick, attempt, ensure}
+use Rattle.rules.specs.Trace.{Run}
+use Rattle.rules.specs.Checks.{Check}
 use Rattle.records.specs.Classes.{is-base}
-use Rattle.table.specs.Description.{Description, class-at, entry, no-line, map-at}
-use Rattle.rules.specs.Lookups.{greatest, map-output}
+use Rattle.table.specs.Description.{Description, class-at}
+use Rattle.rules.specs.Lookups.{greatest}
 use Rattle.rules.specs.Values.{Names, is-zero, value}
 use Rattle.rules.specs.declared.steps.Window.{Window}
-use Rattle.rules.specs.declared.steps.Got.{Got}
-use Rattle.rules.specs.declared.steps.Header.{Header}
 use Rattle.rules.specs.Steps.{element, mapped, natural, next-multiple}
 use Rattle.records.specs.declared.statements.Statement.{Statement}
-use Rattle.records.specs.declared.statements.Statement.the-variants.{Read, Assign, MapRead, Use, If, While, Unknown}
-use Rattle.records.specs.Statements.{statement}
-use Rattle.rules.specs.declared.lines.ReadLine.{ReadLine}
 use Rattle.rules.specs.declared.lines.UseLine.{UseLine}
-use Rattle.rules.specs.Code.{Code, finish, read, assign, map-read, use-of, branch, while, code-within, code}
-use Rattle.rules.specs.Reading.{State, Object, Objects, write, moved, after-read, after-object, value-item, valued, counted, elements, objects, enough-objects, objects-to-end, used, rounds, run, stretch}
+use Rattle.rules.specs.declared.lines.ReadLine.{ReadLine}
+use Rattle.rules.specs.Code.{Code, finish, read, assign, map-read, use-of, branch, while, code}
+use Rattle.rules.specs.Reading.{State, Object, Objects, write, after-object, valued, counted, elements, objects, enough-objects, objects-to-end, used, rounds, run, stretch}
 use Rattle.rules.specs.Growth.{Grown}
-use Rattle.checked.specs.Sound.{Sound, All, Line-sound}
+use Rattle.checked.specs.Sound.{Sound, Line-sound}
 use Rattle.rules.proofs.Follow.{Follows, ends, shown, both-pass, follows-bind, follows-attempt, follows-pick}
 use Rattle.rules.proofs.Struck.{show-value, value-deeper}
 use Rattle.rules.proofs.Same.{reads, uses, Each, code-each, code-same, value-same, map-same, map-output-same}

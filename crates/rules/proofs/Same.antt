@@ -1,19 +1,15 @@
 -- What a newer description answers as the older does: entries, nodes, maps and code.
-use mathlib.Core.Path.{_≡_, refl, sym, _∙_, ap, subst}
-use mathlib.Core.Bool.{Bool, true, false, cond, not, _||_, _&&_}
-use mathlib.Core.List.{List, [], _∷_, _++_}
-use mathlib.Core.Logic.{_⊎_, inl, inr}
-use Prim.Native.Nat.{ℕ, zero, suc, pred, _+_, _-_, _*_, _≤_, _<_, min}
+use mathlib.Core.Path.{_≡_, refl, _∙_, ap}
+use mathlib.Core.Bool.{Bool, true, false, cond, not}
+use mathlib.Core.List.{List}
+use Prim.Native.Nat.{ℕ, zero, suc, _+_, _-_, _≤_, _<_, min}
 use native.Mathlib.Omega.{arith}
-use lib.Dec.{T, ltb, eqb, ltb→lt, eqb→eq}
-use lib.IntN.{ℤ, pos}
+use lib.Dec.{T, ltb, eqb, ltb→lt}
+use lib.IntN.{ℤ}
 use lib.ListN.{length, getD, List·getD-append}
-use Rattle.std.specs.declared.result.Result.the-variants.{Ok, Err}
+use Rattle.std.specs.declared.result.Result.the-variants.{Ok}
 use Rattle.records.specs.declared.records.Line.{Line}
-use Rattle.records.specs.declared.records.Node.{Node}
-use Rattle.records.specs.declared.records.Row.{Row}
-use Rattle.records.specs.declared.records.Class.{Class}
-use Rattle.rules.specs.Checks.{Check, pick, then, fails}
+use Rattle.rules.specs.Checks.{Check, pick, then}
 use Rattle.records.specs.Classes.{is-member}
 use Rattle.table.specs.Description.{Description, entry, no-line, no-node, no-row, no-map, no-class, node-at, row-at, map-at, class-at, line-at}
 use Rattle.rules.specs.Lookups.{output, find-row, map-output, greatest}
@@ -24,8 +20,8 @@ use Rattle.rules.specs.Values.{Names, term-value, before, value-within, value,
 use Rattle.records.specs.declared.statements.Statement.{Statement}
 use Rattle.records.specs.declared.statements.Statement.the-variants.{Read, Assign, MapRead, Use, If, While, Unknown}
 use Rattle.records.specs.Statements.{statement}
-use Rattle.rules.specs.declared.lines.ReadLine.{ReadLine}
 use Rattle.rules.specs.declared.lines.UseLine.{UseLine}
+use Rattle.rules.specs.declared.lines.ReadLine.{ReadLine}
 use Rattle.rules.specs.Code.{Code, finish, read, assign, map-read, use-of, branch, while, coded, code-within, code}
 use Rattle.rules.specs.Growth.{Begins, Grown}
 use Rattle.checked.specs.Sound.{Sound}

@@ -1,5 +1,5 @@
 -- The sample and the edge cases, computed.
-use mathlib.Core.Path.{_≡_, refl}
+use mathlib.Core.Path.{refl}
 use Rattle.bits.specs.Bits.{number, bits-of}
 use Rattle.table.specs.Description.{entry}
 use Rattle.rules.specs.Terms.{term}

@@ -1,15 +1,14 @@
 -- What is left of each kind of item.
-use mathlib.Core.Path.{_≡_, refl, sym, _∙_, ap, subst}
-use mathlib.Core.Bool.{Bool, true, false, cond, not, _||_}
-use mathlib.Core.List.{List, [], _∷_, _++_}
-use mathlib.Core.Logic.{_⊎_, inl, inr}
-use Prim.Native.Nat.{ℕ, zero, suc, pred, _+_, _≤_, _<_}
-use lib.Dec.{T, ltb}
+use mathlib.Core.Path.{_≡_, refl, _∙_, ap}
+use mathlib.Core.Bool.{true, cond, _||_}
+use mathlib.Core.List.{[], _∷_}
+use mathlib.Core.Logic.{inl, inr}
+use Prim.Native.Nat.{ℕ, suc, _≤_, _<_}
+use lib.Dec.{ltb}
 use lib.ListN.{length}
-use Rattle.rules.specs.declared.items.Item.{Item}
 use Rattle.table.specs.Description.{Description}
-use Rattle.rules.specs.declared.steps.Got.{Got}
 use Rattle.rules.specs.declared.steps.Header.{Header}
+use Rattle.rules.specs.declared.steps.Got.{Got}
 use Rattle.rules.specs.Reading.{Object, value-item, open-item, close-item}
 use Rattle.rules.specs.Growth.{new-line, new-class, deeper, left-of, of-class-zero}
 use Rattle.rules.proofs.Follow.{Hidden, below-true, above-false, or-true}

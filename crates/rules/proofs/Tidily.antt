@@ -1,12 +1,11 @@
 -- A tidy reading goes as the reading does, until it stops.
-use mathlib.Core.Path.{_≡_, refl, sym, _∙_, ap, subst}
+use mathlib.Core.Path.{_≡_, refl, ap, subst}
 use mathlib.Core.Bool.{Bool, true, false, not, _||_, _&&_}
 use mathlib.Core.List.{List, [], _∷_}
 use Prim.Native.Nat.{ℕ, zero, suc}
 use native.Mathlib.Omega.{arith}
 use lib.Dec.{T, leb, eqb}
 use lib.IntN.{ℤ}
-use lib.ListN.{length}
 use Rattle.std.specs.declared.result.Result.the-variants.{Ok, Err}
 use Rattle.records.specs.declared.records.Extension.{Extension}
 use Rattle.table.specs.Description.{Description, class-at}
@@ -14,16 +13,15 @@ use Rattle.rules.specs.declared.items.Item.{Item}
 use Rattle.rules.specs.declared.faults.ReadingCause.{ReadingCause}
 use Rattle.rules.specs.declared.faults.ReadingCause.the-variants.{UnknownId}
 use Rattle.rules.specs.declared.faults.ReadingFault.{ReadingFault}
-use Rattle.rules.specs.Trace.{Run, out, pass, stop, done, bind, items, outcome, ended, refused}
+use Rattle.rules.specs.Trace.{Run, out, pass, stop, done, bind, items, outcome, ended}
 use Rattle.rules.specs.Checks.{Check, ensure, pick, attempt}
 use Rattle.rules.specs.Lookups.{greatest, object-class}
 use Rattle.rules.specs.Values.{is-zero}
 use Rattle.rules.specs.declared.lines.UseLine.{UseLine}
 use Rattle.rules.specs.Code.{Code, finish, read, assign, map-read, use-of, branch, while, code}
 use Rattle.rules.specs.declared.steps.Window.{Window}
-use Rattle.rules.specs.declared.steps.Header.{Header}
-use Rattle.rules.specs.Steps.{aligned, header, next-multiple}
-use Rattle.rules.specs.Reading.{State, Object, Objects, objects, enough-objects, objects-to-end, used, rounds, run, stretch, extensions, content, whole, reading}
+use Rattle.rules.specs.Steps.{header, next-multiple}
+use Rattle.rules.specs.Reading.{State, Object, Objects, objects, objects-to-end, used, rounds, run, extensions, content, whole}
 use Rattle.rules.specs.Tidy.{opened-by, object-by, reading-by, tidy-reading, Tidy-law}
 use Rattle.rules.proofs.Plain.{plain-reading}
 

@@ -5,14 +5,13 @@ use mathlib.Core.Bool.{Bool, true, false, cond, not, _&&_, _||_}
 use Prim.Native.Nat.{ℕ, zero, suc, _%_, _≤_, _<_}
 use native.Mathlib.Omega.{arith}
 use lib.Dec.{T, eqb, eqb→eq, ltb, ltb→lt, nltb→le, eqb·suc-zero}
-use lib.ListN.{length, getD, List·getD-eq-default}
-use Rattle.records.specs.Classes.{is-plain, is-base, is-member}
+use lib.ListN.{length}
+use Rattle.records.specs.Classes.{is-base}
 use Rattle.records.specs.declared.records.Class.{Class}
-use Rattle.table.specs.Description.{Description, entry, no-class, class-at}
-use Rattle.places.specs.Classes.{ids-fit, plain-wrong, base-wrong, member-wrong, class-wrong, class-place}
+use Rattle.table.specs.Description.{Description, no-class, class-at}
+use Rattle.places.specs.Classes.{ids-fit, plain-wrong, base-wrong, member-wrong, class-wrong}
 use Rattle.checked.proofs.Held.{faultless}
 use Rattle.rules.specs.Lookups.{greatest}
-use Rattle.rules.specs.Steps.{id-width}
 use Rattle.rules.specs.Order.{Bytes-law}
 use Rattle.rules.proofs.Entries.{entry-past, entry-none}
 

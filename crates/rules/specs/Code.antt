@@ -1,4 +1,5 @@
 -- The lines of a block as a tree: each statement has its line's number, its fields and what follows it.
+use mathlib.Core.Path.{_≡_}
 use mathlib.Core.Bool.{Bool}
 use mathlib.Core.List.{List}
 use Prim.Native.Nat.{ℕ, zero, suc, _+_, _-_, min}
@@ -75,3 +76,8 @@ code-within (suc f) lines at (suc k) = coded (statement (entry lines at no-line)
 -- the code of `count` lines from the line `at`
 unfoldable pub code : (lines : List Line) (at count : ℕ) → Code
 code lines at count = code-within count lines at count
+
+-- the same with no bound in it: the code of some lines is that of the first, with the code of those that follow it
+pub record Code-law : Type 0 where
+  pub none : (lines : List Line) (at : ℕ) → code lines at 0 ≡ finish
+  pub some : (lines : List Line) (at k : ℕ) → code lines at (suc k) ≡ coded (statement (entry lines at no-line)) at k (code lines)

@@ -4,7 +4,7 @@ use mathlib.Core.Path.{_≡_}
 use mathlib.Core.Bool.{Bool, true, false, cond, not, _||_, _&&_}
 use mathlib.Core.List.{List, [], _∷_, _++_}
 use mathlib.Core.Logic.{_⊎_}
-use Prim.Native.Nat.{ℕ, zero, suc, pred, _+_, _≤_, _<_}
+use Prim.Native.Nat.{ℕ, suc, pred, _≤_, _<_}
 use lib.Dec.{T, eqb, leb, ltb}
 use lib.ListN.{length, drop}
 use Rattle.records.specs.declared.records.Class.{Class}
@@ -205,6 +205,11 @@ Parts-law =
     (older newer : Description) (bits : List Bool) → Passes-check older → Passes-check newer → Grown older newer → (new old : List Item) →
     Begins new (items (reading newer bits)) → Begins old (items (reading older bits)) →
     Begins (struck older new) old ⊎ Begins old (struck older new)
+
+-- the depth inside what is struck is at most 16, whatever was handed out so far
+abbrev pub Depth-law : Type 0
+Depth-law =
+    (older newer : Description) (bits : List Bool) (is : List Item) → Begins is (items (reading newer bits)) → depth-after older 0 is ≤ 16
 
 -- what the newer makes of any bits against the older, and what it has handed out so far
 pub record Reads-on (older newer : Description) : Type 0 where

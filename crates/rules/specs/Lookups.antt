@@ -1,10 +1,10 @@
 -- What a reading looks up in a description: the greatest size of a class, the class of an id, a map's output.
-use mathlib.Core.Bool.{Bool, true, false, cond, not, _&&_}
+use mathlib.Core.Bool.{Bool, cond, not, _&&_}
 use mathlib.Core.List.{List, [], _∷_}
 use Prim.Native.Nat.{ℕ, zero, suc, _+_, _*_}
 use lib.Dec.{eqb, leb}
 use lib.IntN.{ℤ, pos, _-ℤ_}
-use Rattle.std.specs.declared.result.Result.the-variants.{Ok, Err}
+use Rattle.std.specs.declared.result.Result.the-variants.{Ok}
 use Rattle.records.specs.declared.records.Class.{Class}
 use Rattle.records.specs.declared.records.Row.{Row}
 use Rattle.records.specs.Classes.{is-base, is-member}

@@ -2,7 +2,7 @@
 use mathlib.Core.Path.{_≡_}
 use mathlib.Core.Bool.{Bool}
 use mathlib.Core.List.{List}
-use Prim.Native.Nat.{ℕ, _≤_}
+use Prim.Native.Nat.{_≤_}
 use Rattle.table.specs.Description.{Description}
 use Rattle.rules.specs.declared.faults.ReadingCause.{ReadingCause}
 use Rattle.rules.specs.declared.faults.ReadingFault.{ReadingFault}

@@ -5,7 +5,7 @@ use Prim.Native.Nat.{ℕ, zero, suc, _+_, _*_}
 use lib.Dec.{eqb, leb}
 use lib.IntN.{ℤ, pos}
 use lib.ListN.{length}
-use Rattle.std.specs.declared.result.Result.the-variants.{Ok, Err}
+use Rattle.std.specs.declared.result.Result.the-variants.{Ok}
 use Rattle.records.specs.declared.records.Extension.{Extension}
 use Rattle.table.specs.Description.{Description, class-at, map-at}
 use Rattle.rules.specs.declared.faults.ReadingCause.the-variants.{Unchecked, UnknownId, TooFew, TooManyRounds}
@@ -112,7 +112,7 @@ module _ (d : Description) (bits : List Bool) where
   used obj o line l (suc k) s =
       attempt line (s .place) (natural 65535 (valued o s (suc k))) λ n. pass (objects obj o line l n 0 s)
 
-  -- the rounds of a while, of which n may follow: there must not be another
+  -- the rounds of a while, of which at most n more may follow; its test is worked out before each, and once more after the last
   unfoldable pub rounds : (test : State → Check ℤ) (body : State → Run State) (line : ℕ) → ℕ → State → Run State
   rounds test body line zero s =
       attempt line (s .place) (test s) λ v. attempt line (s .place) (ensure (is-zero v) TooManyRounds) λ _. pass (done s)

@@ -1,12 +1,11 @@
 -- The sample and the edge cases of the rules, each with what it must come to.
 use mathlib.Core.Path.{_≡_}
-use mathlib.Core.Bool.{Bool, true, false}
+use mathlib.Core.Bool.{Bool, false}
 use mathlib.Core.List.{List, [], _∷_, _++_, map}
 use Prim.Native.Nat.{ℕ, _/_, _%_}
 use lib.IntN.{ℤ, pos, negsuc}
 use lib.ListN.{length, replicate}
 use Rattle.std.specs.declared.result.Result.the-variants.{Ok, Err}
-use Rattle.records.specs.declared.records.Class.{Class}
 use Rattle.records.specs.declared.records.Line.{Line}
 use Rattle.records.specs.declared.records.Node.{Node}
 use Rattle.rules.specs.declared.items.Item.{Item}

@@ -5,7 +5,7 @@ use mathlib.Core.Bool.{Bool, true, false, not, _||_, _&&_}
 use mathlib.Core.List.{List}
 use Prim.Native.Nat.{ℕ, zero, suc, _-_}
 use lib.Dec.{eqb}
-use Rattle.std.specs.declared.result.Result.the-variants.{Ok, Err}
+use Rattle.std.specs.declared.result.Result.the-variants.{Ok}
 use Rattle.table.specs.Description.{Description, class-at}
 use Rattle.bits.specs.Bits.{number, part}
 use Rattle.rules.specs.declared.faults.ReadingCause.the-variants.{Unchecked, UnknownId, BitsLeft}

@@ -1,6 +1,6 @@
 -- What a reading does: items handed out, silent steps, and how it ends.
 use mathlib.Core.Path.{_≡_, refl, ap}
-use mathlib.Core.List.{List, [], _∷_, _++_}
+use mathlib.Core.List.{List, [], _∷_}
 use Rattle.rules.specs.declared.items.Item.{Item}
 use Rattle.rules.specs.declared.faults.ReadingFault.{ReadingFault}
 

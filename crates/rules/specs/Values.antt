@@ -2,7 +2,7 @@
 use mathlib.Core.Path.{_≡_}
 use mathlib.Core.Bool.{Bool, true, false, cond, not, _&&_, _||_}
 use mathlib.Core.List.{List}
-use Prim.Native.Nat.{ℕ, zero, suc, _+_, _*_, _^_}
+use Prim.Native.Nat.{ℕ, zero, suc, _^_}
 use lib.Bits.{bitAnd, bitOr}
 use lib.Dec.{eqb, ltb}
 use lib.IntN.{ℤ, pos, negsuc, _+ℤ_, _-ℤ_, _*ℤ_, natAbs}
@@ -110,3 +110,9 @@ value-within (suc f) nodes size names k =
 -- the value of node k in an object of a size, with its names
 unfoldable pub value : List Node → (size : ℕ) → Names → ℕ → Check ℤ
 value nodes size names k = value-within (suc k) nodes size names k
+
+-- the same with no bound in it: a node's value comes from those of the nodes before it
+abbrev pub Value-law : Type 0
+Value-law =
+    (nodes : List Node) (size : ℕ) (names : Names) (k : ℕ) →
+    value nodes size names k ≡ term-value k (term (entry nodes k no-node)) names size (before k (value nodes size names))

@@ -1,2 +1,2 @@
-mod Numbers
-mod Steps
+pub mod Numbers
+pub mod Steps

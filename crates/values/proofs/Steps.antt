@@ -1,10 +1,7 @@
--- The recursion equation of `value`, with no bound in it.
-use mathlib.Core.Path.{_≡_, refl, sym, ap, _∙_, fun-ext}
-use mathlib.Core.Bool.{Bool, true, false}
+-- What comes of a node, by its term.
+use mathlib.Core.Path.{_≡_, sym, ap, _∙_}
 use mathlib.Core.List.{List}
-use Prim.Native.Nat.{ℕ, zero, suc, _<_, _≤_}
-use native.Mathlib.Omega.{arith}
-use lib.Dec.{T, ltb, ltb→lt}
+use Prim.Native.Nat.{ℕ, _<_, _≤_}
 use lib.IntN.{ℤ, pos}
 use Rattle.records.specs.declared.records.Node.{Node}
 use Rattle.table.specs.Description.{entry, no-node}
@@ -14,32 +11,11 @@ use Rattle.rules.specs.declared.faults.Failure.{Failure}
 use Rattle.rules.specs.declared.terms.Operator.{Operator}
 use Rattle.rules.specs.declared.terms.Term.{Term}
 use Rattle.rules.specs.declared.terms.Term.the-variants.{Constant, Named, OwnSize, Apply, NoTerm}
+use Rattle.rules.proofs.Equations.{value-step}
 use Rattle.rules.proofs.Follow.{below-true, above-false}
 use Rattle.rules.specs.Checks.{Check, pick, fails, then}
 use Rattle.rules.specs.declared.faults.ReadingCause.the-variants.{Unchecked}
-use Rattle.rules.specs.Values.{Names, applied, of-node, term-value, before, value-within, value}
-
--- two ways to give the earlier values that agree below k
-chosen : (b : Bool) (x y : Check ℤ) → (T b → x ≡ y) → pick b (λ _. x) (λ _. fails Unchecked) ≡ pick b (λ _. y) (λ _. fails Unchecked)
-chosen true x y h = h tt
-chosen false x y h = refl
-
-agreed : (k : ℕ) (p q : ℕ → Check ℤ) → ((j : ℕ) → j < k → p j ≡ q j) → before k p ≡ before k q
-agreed k p q h = fun-ext (λ j. chosen (ltb j k) (p j) (q j) (λ t. h j (ltb→lt j k t)))
-
--- any bound above a node's number gives the same value
-enough : (nodes : List Node) (size : ℕ) (names : Names) (f g k : ℕ) → k < f → k < g → value-within f nodes size names k ≡ value-within g nodes size names k
-unfolding value-within
-enough nodes size names zero g k p q = absurd (omega arith)
-enough nodes size names (suc f) zero k p q = absurd (omega arith)
-enough nodes size names (suc f) (suc g) k p q =
-    ap (term-value k (term (entry nodes k no-node)) names size) (agreed k _ _ (λ j h. enough nodes size names f g j (omega arith) (omega arith)))
-
-pub value-step : (nodes : List Node) (size : ℕ) (names : Names) (k : ℕ) →
-    value nodes size names k ≡ term-value k (term (entry nodes k no-node)) names size (before k (value nodes size names))
-unfolding value-within value
-value-step nodes size names k =
-    ap (term-value k (term (entry nodes k no-node)) names size) (agreed k _ _ (λ j h. enough nodes size names k (suc j) j h (omega arith)))
+use Rattle.rules.specs.Values.{Names, applied, of-node, term-value, before, value}
 
 module _ (nodes : List Node) (size : ℕ) (names : Names) (k : ℕ) where
   abbrev node-term : Term

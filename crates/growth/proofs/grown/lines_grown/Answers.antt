@@ -1,6 +1,5 @@
 use mathlib.Core.Path.{sym, _∙_, ap}
 use mathlib.Core.Bool.{_&&_}
-use native.Mathlib.Omega.{arith}
 use Prim.Native.Nat.{_+_}
 use lib.ListN.{drop}
 use Rattle.table.specs.Description.{no-line}

@@ -1,5 +1,5 @@
 use mathlib.Core.Path.{_≡_}
-use lib.ListN.{length, drop}
+use lib.ListN.{drop}
 use Rattle.rules.specs.Growth.{same-numbers}
 use Rattle.growth.proofs.same.same_numbers.Given as given
 

@@ -1,5 +1,6 @@
+use mathlib.Core.Path.{refl}
 use Rattle.rules.proofs.Ranges.{operators-law}
 use Rattle.rules.proofs.laws.operators_law.Needs as need
 
 pub returns : need.returns
-returns c = operators-law
+returns c = record { answer = refl; law = operators-law }

@@ -1,6 +1,7 @@
+use mathlib.Core.Path.{refl}
 use Rattle.rules.proofs.WholeBytes.{bytes}
 use Rattle.rules.proofs.Orderly.{order-law, window-law}
 use Rattle.rules.proofs.laws.order_law.Needs as need
 
 pub returns : need.returns
-returns c = record { items = order-law; windows = window-law; bytes = bytes }
+returns c = record { answer = refl; items = order-law; windows = window-law; bytes = bytes }

@@ -1,5 +1,4 @@
 use native.Mathlib.Omega.{arith}
-use borrow.Author.Needs.{needs}
 use Rattle.std.proofs.shelf.Ways.{tells}
 use Rattle.rules.specs.Terms.{term}
 use Rattle.rules.proofs.terms.term_of.Needs as need
