@@ -24,7 +24,7 @@ fn term_at(nodes: &[Node], k: u16) -> Term
 }
 
 // The value of name number n, 0 where there is none.
-fn name_at(names: &[i64], n: u16) -> i64
+pub fn name_at(names: &[i64], n: u16) -> i64
     ensures { λ r. ⌜ r ≡ named-by (now (names .entry)) n ⌝ }
 {
     if n == 0 || n as usize > names.len() {

@@ -1,0 +1,11 @@
+// What a reading does inside one open object: what the object still has to do, and each step of it.
+pub mod frame;
+pub mod frames;
+pub mod inside;
+mod lines;
+pub mod making;
+pub mod moves;
+mod rounds;
+pub mod step;
+mod upcoming;
+pub mod values_of;

@@ -1,0 +1,5 @@
+mod Members
+mod Endings
+mod Entering
+mod Stepping
+mod Turns
