@@ -134,3 +134,7 @@ Order-law = (d : Description) (bits : List Bool) → Orderly d bits
 
 abbrev pub Bytes-law : Type 0
 Bytes-law = (d : Description) → Passes-check d → Bytes d
+
+-- a reading of a source depends on nothing but its bits: where the lists of two sources are equal, so are the readings
+abbrev pub Bits-law : Type 0
+Bits-law = (d : Description) (bits same : List Bool) → bits ≡ same → reading d bits ≡ reading d same

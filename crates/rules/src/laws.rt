@@ -3,7 +3,7 @@ ghost use mathlib.Core.Path.{_≡_};
 ghost use mathlib.Core.Bool.{true};
 ghost use Rattle.rules.specs.Code.{Code-law};
 ghost use Rattle.rules.specs.Growth.{Copy-law, Depth-law, Grown-means, Growth-law, Parts-law};
-ghost use Rattle.rules.specs.Order.{Bytes-law, Order-law, Window-law};
+ghost use Rattle.rules.specs.Order.{Bits-law, Bytes-law, Order-law, Window-law};
 ghost use Rattle.rules.specs.Ranks.{Faults-known};
 ghost use Rattle.rules.specs.Sample.{Cases-hold};
 ghost use Rattle.rules.specs.Tidy.{Tidy-law};
@@ -38,12 +38,13 @@ pub fn faults_known() -> bool
 }
 
 // The items of a reading nest, at most 16 objects are open, places never go back nor pass the window's end, values lie within
-// their bits, and expandable objects begin and end on byte boundaries.
+// their bits, expandable objects begin and end on byte boundaries, and nothing but the source's bits counts.
 pub fn order_law() -> bool
     ensures answer { λ r. ⌜ r ≡ true ⌝ }
     ensures items { λ _. ⌜ Order-law ⌝ }
     ensures windows { λ _. ⌜ Window-law ⌝ }
     ensures bytes { λ _. ⌜ Bytes-law ⌝ }
+    ensures alone { λ _. ⌜ Bits-law ⌝ }
 {
     true
 }
