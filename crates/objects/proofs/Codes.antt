@@ -1,5 +1,6 @@
 -- The code of some lines, line by line.
 use mathlib.Core.Path.{_≡_, refl, sym, ap, ap₂, _∙_}
+use mathlib.Core.Bool.{Bool}
 use mathlib.Core.List.{List, [], _∷_}
 use mathlib.Core.Logic.{_≢_}
 use Prim.Native.Nat.{ℕ, zero, suc, _+_, _-_, _≤_, _<_, min}
@@ -12,7 +13,7 @@ use Rattle.records.specs.declared.statements.Statement.the-variants.{Read, Assi
 use Rattle.records.specs.Statements.{statement}
 use Rattle.table.specs.Description.{entry, no-line}
 use Rattle.rules.specs.Code.{Code, finish, read, assign, map-read, use-of, branch, while, coded, code-within, code}
-use Rattle.objects.specs.Upcoming.{Is-known}
+use Rattle.objects.specs.Upcoming.{Is-known, Is-unread, Is-plain}
 
 module _ (at k : ℕ) (f g : ℕ → ℕ → Code) (same : (a n : ℕ) → n ≤ k → f a n ≡ g a n) where
   coded-same : (s : Statement) → coded s at k f ≡ coded s at k g
@@ -99,3 +100,23 @@ module _ (lines : List Line) (at n : ℕ) (some : 0 < n) where
       go : (m : ℕ) → 0 < m → code lines at m ≡ coded s at (m - 1) (code lines)
       go zero h = absurd (omega arith)
       go (suc k) h = let a : suc k - 1 ≡ k = omega arith in rw (a, e) (code-line lines at k)
+
+-- a line of a kind that there is, and of another than those before
+pub unread-of : (s : Statement) → Is-known s
+    → ((a : Bool) (b c e f g h i : ℕ) → s ≡ Read a b c e f g h i → ⊥) → Is-unread s
+unread-of (Read signed width name count alignment ahead lowest highest) k n = n signed width name count alignment ahead lowest highest refl
+unread-of (Assign name node) k n = tt
+unread-of (MapRead map name) k n = tt
+unread-of (Use class count least most carried receiving) k n = tt
+unread-of (If node first second) k n = tt
+unread-of (While node lines rounds) k n = tt
+unread-of Unknown k n = k
+
+pub plain-of : (s : Statement) → Is-unread s → ((a b c e f g : ℕ) → s ≡ Use a b c e f g → ⊥) → Is-plain s
+plain-of (Read signed width name count alignment ahead lowest highest) k n = k
+plain-of (Assign name node) k n = tt
+plain-of (MapRead map name) k n = tt
+plain-of (Use class count least most carried receiving) k n = n class count least most carried receiving refl
+plain-of (If node first second) k n = tt
+plain-of (While node lines rounds) k n = tt
+plain-of Unknown k n = k

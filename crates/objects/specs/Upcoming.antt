@@ -21,6 +21,26 @@ Is-known (If node first second) = Unit {0}
 Is-known (While node lines rounds) = Unit {0}
 Is-known Unknown = ⊥
 
+-- one that is no read
+abbrev pub Is-unread : Statement → Type 0
+Is-unread (Read signed width name count alignment ahead lowest highest) = ⊥
+Is-unread (Assign name node) = Unit {0}
+Is-unread (MapRead map name) = Unit {0}
+Is-unread (Use class count least most carried receiving) = Unit {0}
+Is-unread (If node first second) = Unit {0}
+Is-unread (While node lines rounds) = Unit {0}
+Is-unread Unknown = ⊥
+
+-- nor a use
+abbrev pub Is-plain : Statement → Type 0
+Is-plain (Read signed width name count alignment ahead lowest highest) = ⊥
+Is-plain (Assign name node) = Unit {0}
+Is-plain (MapRead map name) = Unit {0}
+Is-plain (Use class count least most carried receiving) = ⊥
+Is-plain (If node first second) = Unit {0}
+Is-plain (While node lines rounds) = Unit {0}
+Is-plain Unknown = ⊥
+
 pub record Is-next (lines : List Line) (at count line after : ℕ) (s : Statement) : Type 0 where
   pub same : code lines at count ≡ coded s line after (code lines)
   pub is : statement (entry lines line no-line) ≡ s

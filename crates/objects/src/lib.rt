@@ -2,6 +2,7 @@
 pub mod frame;
 pub mod frames;
 pub mod inside;
+mod kinds;
 mod lines;
 pub mod making;
 pub mod moves;

@@ -3,3 +3,7 @@ mod Endings
 mod Entering
 mod Stepping
 mod Turns
+mod Props
+mod Nexts
+mod Filling
+mod Heights

@@ -1,2 +1,4 @@
 pub mod Walks
 pub mod Pushes
+pub mod Reads
+pub mod Fills

@@ -12,60 +12,25 @@ use Rattle.objects.specs.declared.frame.Frame.the-variants.{Lines, Rounds, Ele
 use Rattle.objects.specs.Frames.{frames}
 use Rattle.objects.specs.Ahead.{inner-of, object-of, Room}
 use Rattle.objects.specs.Moves.{Code-moved}
+use Rattle.objects.proofs.Codes.{unread-of}
 use Rattle.objects.proofs.inside.Inside.known_line.Needs as need
 
 pub read-requires : need.read-requires
 unfolding coded
 read-requires g c κs = record { room = subst (λ (s : Statement). Room (description (c .args .tables .now)) (coded s (c .args .line) (c .args .after) (code (description (c .args .tables .now) .lines))) (frames (c .args .self .now .frames))) (c .in-Read .is) (c .pre .room); named = subst (λ (s : Statement). written s ≤ 128) (c .in-Read .is) (c .pre .named); near = c .pre .near }
 
-pub assign-requires : need.assign-requires
-unfolding coded
-assign-requires g c κs = record { room = subst (λ (s : Statement). Room (description (c .args .tables .now)) (coded s (c .args .line) (c .args .after) (code (description (c .args .tables .now) .lines))) (frames (c .args .self .now .frames))) (c .in-Assign .is) (c .pre .room); named = subst (λ (s : Statement). written s ≤ 128) (c .in-Assign .is) (c .pre .named); near = c .pre .near }
-
-pub map-read-requires : need.map-read-requires
-unfolding coded
-map-read-requires g c κs = record { room = subst (λ (s : Statement). Room (description (c .args .tables .now)) (coded s (c .args .line) (c .args .after) (code (description (c .args .tables .now) .lines))) (frames (c .args .self .now .frames))) (c .in-MapRead .is) (c .pre .room); named = subst (λ (s : Statement). written s ≤ 128) (c .in-MapRead .is) (c .pre .named); width = c .pre .readable .maps (c .in-MapRead .map); within = c .pre .within; short = c .pre .short }
-
-pub use-counted-requires : need.use-counted-requires
-unfolding coded
-use-counted-requires g c κs = record { room = subst (λ (s : Statement). Room (description (c .args .tables .now)) (coded s (c .args .line) (c .args .after) (code (description (c .args .tables .now) .lines))) (frames (c .args .self .now .frames))) (c .in-Use .is) (c .pre .room); some = omega arith; named = subst (λ (s : Statement). written s ≤ 128) (c .in-Use .is) (c .pre .named); near = c .pre .near }
-
-pub use-to-end-requires : need.use-to-end-requires
-unfolding coded
-use-to-end-requires g c κs = record { room = subst (λ (s : Statement). Room (description (c .args .tables .now)) (coded s (c .args .line) (c .args .after) (code (description (c .args .tables .now) .lines))) (frames (c .args .self .now .frames))) (c .in-Use .is) (c .pre .room); none = omega arith; named = subst (λ (s : Statement). written s ≤ 128) (c .in-Use .is) (c .pre .named); near = c .pre .near }
-
-pub branch-self-requires : need.branch-self-requires
-unfolding coded
-branch-self-requires g c κs = record { room = subst (λ (s : Statement). Room (description (c .args .tables .now)) (coded s (c .args .line) (c .args .after) (code (description (c .args .tables .now) .lines))) (frames (c .args .self .now .frames))) (c .in-If .is) (c .pre .room); near = c .pre .near }
-
-pub begin-rounds-requires : need.begin-rounds-requires
-unfolding coded
-begin-rounds-requires g c κs = record { room = subst (λ (s : Statement). Room (description (c .args .tables .now)) (coded s (c .args .line) (c .args .after) (code (description (c .args .tables .now) .lines))) (frames (c .args .self .now .frames))) (c .in-While .is) (c .pre .room); near = c .pre .near }
-
 pub returns-in-Read : need.returns-in-Read
 unfolding coded
 returns-in-Read g c = subst (λ (s : Statement). Code-moved (description (c .args .tables .now)) (g .S·Source .bits (c .args .source .now)) (object-of (c .args .about)) (coded s (c .args .line) (c .args .after) (code (description (c .args .tables .now) .lines))) (c .args .self .now) (c .args .p) (c .read .result) (c .read .last .self)) (sym (c .in-Read .is)) (c .read .ensures (g .S·Source .bits (c .args .source .now)))
 
-pub returns-in-Assign : need.returns-in-Assign
-unfolding coded
-returns-in-Assign g c = subst (λ (s : Statement). Code-moved (description (c .args .tables .now)) (g .S·Source .bits (c .args .source .now)) (object-of (c .args .about)) (coded s (c .args .line) (c .args .after) (code (description (c .args .tables .now) .lines))) (c .args .self .now) (c .args .p) (c .assign .result) (c .assign .last .self)) (sym (c .in-Assign .is)) (c .assign .ensures (g .S·Source .bits (c .args .source .now)))
-
-pub returns-in-MapRead : need.returns-in-MapRead
-unfolding coded
-returns-in-MapRead g c = subst (λ (s : Statement). Code-moved (description (c .args .tables .now)) (g .S·Source .bits (c .args .source .now)) (object-of (c .args .about)) (coded s (c .args .line) (c .args .after) (code (description (c .args .tables .now) .lines))) (c .args .self .now) (c .args .p) (c .map-read .result) (c .map-read .last .self)) (sym (c .in-MapRead .is)) (c .map-read .ensures)
-
-pub returns-then-count-gt0 : need.returns-then-count-gt0
-unfolding coded
-returns-then-count-gt0 g c = subst (λ (s : Statement). Code-moved (description (c .args .tables .now)) (g .S·Source .bits (c .args .source .now)) (object-of (c .args .about)) (coded s (c .args .line) (c .args .after) (code (description (c .args .tables .now) .lines))) (c .args .self .now) (c .args .p) (c .use-counted .result) (c .use-counted .last .self)) (sym (c .in-Use .is)) (c .use-counted .ensures (g .S·Source .bits (c .args .source .now)))
-
-pub returns-else-count-gt0 : need.returns-else-count-gt0
-unfolding coded
-returns-else-count-gt0 g c = subst (λ (s : Statement). Code-moved (description (c .args .tables .now)) (g .S·Source .bits (c .args .source .now)) (object-of (c .args .about)) (coded s (c .args .line) (c .args .after) (code (description (c .args .tables .now) .lines))) (c .args .self .now) (c .args .p) (c .use-to-end .result) (c .use-to-end .last .self)) (sym (c .in-Use .is)) (c .use-to-end .ensures (g .S·Source .bits (c .args .source .now)))
-
-pub returns-in-If : need.returns-in-If
-unfolding coded
-returns-in-If g c = subst (λ (s : Statement). Code-moved (description (c .args .tables .now)) (g .S·Source .bits (c .args .source .now)) (object-of (c .args .about)) (coded s (c .args .line) (c .args .after) (code (description (c .args .tables .now) .lines))) (c .args .self .now) (c .args .p) (c .branch-self .result) (c .branch-self .last .self)) (sym (c .in-If .is)) (c .branch-self .ensures (g .S·Source .bits (c .args .source .now)))
-
-pub returns-in-While : need.returns-in-While
-unfolding coded
-returns-in-While g c = subst (λ (s : Statement). Code-moved (description (c .args .tables .now)) (g .S·Source .bits (c .args .source .now)) (object-of (c .args .about)) (coded s (c .args .line) (c .args .after) (code (description (c .args .tables .now) .lines))) (c .args .self .now) (c .args .p) (c .begin-rounds .result) (c .begin-rounds .last .self)) (sym (c .in-While .is)) (c .begin-rounds .ensures (g .S·Source .bits (c .args .source .now)))
+pub unread-line-requires : need.unread-line-requires
+unread-line-requires g c κs =
+    record {
+      room = c .pre .room;
+      known = unread-of (c .args .statement) (c .pre .known) (c .in-rest .not-Read);
+      named = c .pre .named;
+      readable = c .pre .readable;
+      near = c .pre .near;
+      within = c .pre .within;
+      short = c .pre .short;
+    }
