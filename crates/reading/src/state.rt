@@ -8,6 +8,7 @@ use rules::faults::ReadingFault;
 use table::loaded::Loaded;
 
 // A reading of a source by a checked description.
+#[derive(Drop)]
 pub struct Reading<'d, S: Source> {
     pub(crate) tables: &'d Loaded,
     pub(crate) source: S,
