@@ -18,9 +18,9 @@ impl<S: Source + Drop, T: Source + Drop> Join<S, T> {
     // The bits of `front`, and then those of `back`. Refuses `TooLong` where they are more than
     // `LONGEST` in all.
     pub fn new(front: S, back: T) -> Result<Join<S, T>, Refusal>
-        ensures { Makes result (λ j. limited (S.Source.bits j.front ++ T.Source.bits j.back))
-            (S.Source.bits front ++ T.Source.bits back)
-            (length (S.Source.bits front) + length (T.Source.bits back)) longest TooLong }
+        ensures { Makes result (λ j. limited (S.bits j.front ++ T.bits j.back))
+            (S.bits front ++ T.bits back)
+            (length (S.bits front) + length (T.bits back)) longest TooLong }
     {
         if front.length() > LONGEST - back.length() {
             return Err(Refusal::TooLong);
@@ -30,9 +30,9 @@ impl<S: Source + Drop, T: Source + Drop> Join<S, T> {
 }
 
 impl<S: Source, T: Source> Source for Join<S, T> {
-    ghost bits = { λ s. limited (S.Source.bits s.front ++ T.Source.bits s.back) };
+    ghost bits = { λ s. limited (S.bits s.front ++ T.bits s.back) };
 
-    ghost short = { λ s. limited_short (S.Source.bits s.front ++ T.Source.bits s.back) };
+    ghost short = { λ s. limited_short (S.bits s.front ++ T.bits s.back) };
 
     fn length(&self) -> u32 {
         let both = self.front.length() + self.back.length();

@@ -3,9 +3,9 @@ use crate::source::Source;
 
 // A shared reference to a source is a source of the same bits.
 impl<S: Source> Source for &S {
-    ghost bits = { λ s. S.Source.bits s.now };
+    ghost bits = { λ s. S.bits s.now };
 
-    ghost short = { λ s. S.Source.short s.now };
+    ghost short = { λ s. S.short s.now };
 
     fn length(&self) -> u32 {
         (**self).length()

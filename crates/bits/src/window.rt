@@ -19,9 +19,9 @@ impl<S: Source + Drop> Window<S> {
     // The `count` bits of a source from place `first`. Refuses `Outside` where they do not all lie
     // in the source.
     pub fn new(inner: S, first: u32, count: u32) -> Result<Window<S>, Refusal>
-        ensures { Makes result (λ w. part (S.Source.bits w.inner) w.first (w.end - w.first))
-            (part (S.Source.bits inner) first count)
-            (first + count) (length (S.Source.bits inner)) Outside }
+        ensures { Makes result (λ w. part (S.bits w.inner) w.first (w.end - w.first))
+            (part (S.bits inner) first count)
+            (first + count) (length (S.bits inner)) Outside }
     {
         let length = inner.length();
         if count > length || first > length - count {
@@ -33,9 +33,9 @@ impl<S: Source + Drop> Window<S> {
 }
 
 impl<S: Source> Source for Window<S> {
-    ghost bits = { λ s. part (S.Source.bits s.inner) s.first (s.end - s.first) };
+    ghost bits = { λ s. part (S.bits s.inner) s.first (s.end - s.first) };
 
-    ghost short = { λ s. part_short (S.Source.bits s.inner) s.first (s.end - s.first) (S.Source.short s.inner) };
+    ghost short = { λ s. part_short (S.bits s.inner) s.first (s.end - s.first) (S.short s.inner) };
 
     fn length(&self) -> u32 {
         let end = self.end.min(self.inner.length());

@@ -7,7 +7,7 @@ use crate::source::{Source, WIDEST};
 // Whether the `count` bits of a source from place `from` are all 0, as no bits are. Refuses
 // `PastEnd` where they are not all in the source.
 pub fn is_zero<S: Source>(source: &S, from: u32, count: u32) -> Result<bool, Refusal>
-    ensures { result ≡ zero_answer (S.Source.bits source.now) from count }
+    ensures { result ≡ zero_answer (S.bits source.now) from count }
 {
     let length = source.length();
     if count > length || from > length - count {

@@ -3,7 +3,7 @@ ghost use Rattle.table.specs.Description.{description};
 ghost use Rattle.checked.specs.Check.{first_fault};
 ghost use Rattle.checked.specs.Law.{rules, Says};
 
-use crate::fields::field_fault;
+use crate::field_faults::field_fault;
 use blocks::faults::{depth_fault, stretch_fault};
 use owners::faults::{owner_fault, rank_fault};
 use places::faults::place_fault;

@@ -1,6 +1,6 @@
 // The check of a description: its first fault, and descriptions that have none.
 pub mod checked;
-pub mod fields;
+pub mod field_faults;
 pub mod first;
 pub mod laws;
 pub mod make;

@@ -65,10 +65,10 @@ impl<'d, O: Source, N: Source> Comparison<'d, O, N> {
         old_source: O,
         new_source: N,
     ) -> Comparison<'d, O, N>
-        ensures begun { Begun O.Source.bits N.Source.bits (description older.now.loaded) (description newer.now.loaded) (O.Source.bits old_source) (N.Source.bits new_source) result }
-        ensures older { (d : Description) (list : List Bool) → HandsOut O.Source.bits d list }
-        ensures newer { (d : Description) (list : List Bool) → HandsOut N.Source.bits d list }
-        ensures law { grown (description older.now.loaded) (description newer.now.loaded) ≡ true → OlderAndNewer O.Source.bits N.Source.bits (description older.now.loaded) (description newer.now.loaded) }
+        ensures begun { Begun O.bits N.bits (description older.now.loaded) (description newer.now.loaded) (O.bits old_source) (N.bits new_source) result }
+        ensures older { (d : Description) (list : List Bool) → HandsOut O.bits d list }
+        ensures newer { (d : Description) (list : List Bool) → HandsOut N.bits d list }
+        ensures law { grown (description older.now.loaded) (description newer.now.loaded) ≡ true → OlderAndNewer O.bits N.bits (description older.now.loaded) (description newer.now.loaded) }
     {
         Comparison {
             tables: older.tables(),
@@ -97,8 +97,8 @@ impl<O: Source, N: Source> Comparison<'_, O, N> {
 
     // What comes next: the newer's next item if it is struck, else what is left of it beside the older's next.
     pub fn next(&mut self) -> Seen
-        ensures compared { Compares O.Source.bits N.Source.bits self.old self.new result }
-        ensures still { Still O.Source.bits N.Source.bits self.old self.new }
+        ensures compared { Compares O.bits N.bits self.old self.new result }
+        ensures still { Still O.bits N.bits self.old self.new }
     {
         match self.newer.next() {
             Ok(next) => match next {

@@ -29,7 +29,7 @@ pub(crate) trait Fields: Copy {
 
 // Whether every older record stands unchanged in place.
 pub(crate) fn stands<R: Fields>(older: &[R], newer: &[R]) -> bool
-    ensures { result ≡ stands fields older.now newer.now }
+    ensures { result ≡ stands R.fields older.now newer.now }
 {
     if older.len() > newer.len() {
         return false;

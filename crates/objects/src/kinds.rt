@@ -31,9 +31,9 @@ impl Inside {
         requires named { written statement ≤ 128 }
         requires readable { Readable (description tables.now) }
         requires near { p ≤ 2147483647 }
-        requires within { about.window.end ≤ length (S.Source.bits source.now) }
+        requires within { about.window.end ≤ length (S.bits source.now) }
         requires short { about.window.end ≤ 2147483647 }
-        ensures { CodeMoved (description tables.now) (S.Source.bits source.now) (object_of about) (coded statement line after (code (description tables.now).lines)) self.old p result self.new }
+        ensures { CodeMoved (description tables.now) (S.bits source.now) (object_of about) (coded statement line after (code (description tables.now).lines)) self.old p result self.new }
     {
         match statement {
             Statement::Assign { name, node } => {
@@ -72,9 +72,9 @@ impl Inside {
         requires named { written statement ≤ 128 }
         requires readable { Readable (description tables.now) }
         requires near { p ≤ 2147483647 }
-        requires within { about.window.end ≤ length (S.Source.bits source.now) }
+        requires within { about.window.end ≤ length (S.bits source.now) }
         requires short { about.window.end ≤ 2147483647 }
-        ensures { CodeMoved (description tables.now) (S.Source.bits source.now) (object_of about) (coded statement line after (code (description tables.now).lines)) self.old p result self.new }
+        ensures { CodeMoved (description tables.now) (S.bits source.now) (object_of about) (coded statement line after (code (description tables.now).lines)) self.old p result self.new }
     {
         match statement {
             Statement::Use {
@@ -118,9 +118,9 @@ impl Inside {
         requires named { written statement ≤ 128 }
         requires readable { Readable (description tables.now) }
         requires near { p ≤ 2147483647 }
-        requires within { about.window.end ≤ length (S.Source.bits source.now) }
+        requires within { about.window.end ≤ length (S.bits source.now) }
         requires short { about.window.end ≤ 2147483647 }
-        ensures { CodeMoved (description tables.now) (S.Source.bits source.now) (object_of about) (coded statement line after (code (description tables.now).lines)) self.old p result self.new }
+        ensures { CodeMoved (description tables.now) (S.bits source.now) (object_of about) (coded statement line after (code (description tables.now).lines)) self.old p result self.new }
     {
         match statement {
             Statement::Read {

@@ -63,9 +63,9 @@ fn mapped<S: Source>(
     map: u16,
     p: u32,
 ) -> Result<Got, Failure>
-    requires within { window.end ≤ length (S.Source.bits source.now) }
+    requires within { window.end ≤ length (S.bits source.now) }
     requires width { (map_at (description tables.now) map).width ≤ 16 }
-    ensures value { result ≡ mapped (S.Source.bits source.now) window (map_at (description tables.now) map).width (map_output (description tables.now) map) p }
+    ensures value { result ≡ mapped (S.bits source.now) window (map_at (description tables.now) map).width (map_output (description tables.now) map) p }
     ensures bound { IfOk result (λ g. g.after ≤ window.end) }
 {
     let record = record_at(&tables.maps, map as usize);
@@ -148,9 +148,9 @@ impl Inside {
         requires room { Room (description tables.now) (map_read line map name (following (description tables.now) line after)) (frames self.old.frames) }
         requires named { name ≤ 128 }
         requires width { (map_at (description tables.now) map).width ≤ 16 }
-        requires within { about.window.end ≤ length (S.Source.bits source.now) }
+        requires within { about.window.end ≤ length (S.bits source.now) }
         requires short { about.window.end ≤ 2147483647 }
-        ensures { CodeMoved (description tables.now) (S.Source.bits source.now) (object_of about) (map_read line map name (following (description tables.now) line after)) self.old p result self.new }
+        ensures { CodeMoved (description tables.now) (S.bits source.now) (object_of about) (map_read line map name (following (description tables.now) line after)) self.old p result self.new }
     {
         match mapped(source, tables, about.window, map, p) {
             Ok(got) => {

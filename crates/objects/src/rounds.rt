@@ -83,8 +83,8 @@ impl Inside {
         fields: ReadLine,
     ) -> Result<Got, Failure>
         requires near { p ≤ 2147483647 }
-        requires within { about.window.end ≤ length (S.Source.bits source.now) }
-        ensures value { result ≡ element (S.Source.bits source.now) about.window fields (valued (description tables.now) (S.Source.bits source.now) (object_of about) (state p (inner_of self.now)) fields.width) (valued (description tables.now) (S.Source.bits source.now) (object_of about) (state p (inner_of self.now)) fields.lowest) (valued (description tables.now) (S.Source.bits source.now) (object_of about) (state p (inner_of self.now)) fields.highest) p }
+        requires within { about.window.end ≤ length (S.bits source.now) }
+        ensures value { result ≡ element (S.bits source.now) about.window fields (valued (description tables.now) (S.bits source.now) (object_of about) (state p (inner_of self.now)) fields.width) (valued (description tables.now) (S.bits source.now) (object_of about) (state p (inner_of self.now)) fields.lowest) (valued (description tables.now) (S.bits source.now) (object_of about) (state p (inner_of self.now)) fields.highest) p }
         ensures bound { IfOk result (λ g. g.after ≤ about.window.end) }
     {
         element(
@@ -112,9 +112,9 @@ impl Inside {
     ) -> Move
         requires fit { Fit (description tables.now) (Elements line fields index total ∷ frames self.old.frames) }
         requires near { p ≤ 2147483647 }
-        requires within { about.window.end ≤ length (S.Source.bits source.now) }
+        requires within { about.window.end ≤ length (S.bits source.now) }
         requires short { about.window.end ≤ 2147483647 }
-        ensures { FrameMoved (description tables.now) (S.Source.bits source.now) (object_of about) (Elements line fields index total) self.old p result self.new }
+        ensures { FrameMoved (description tables.now) (S.bits source.now) (object_of about) (Elements line fields index total) self.old p result self.new }
     {
         if index >= total {
             return Move::Quiet { place: p };

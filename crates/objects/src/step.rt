@@ -28,9 +28,9 @@ impl Inside {
         requires none { frames self.old.frames ≡ [] }
         requires readable { Readable (description tables.now) }
         requires near { p ≤ 2147483647 }
-        requires within { about.window.end ≤ length (S.Source.bits source.now) }
+        requires within { about.window.end ≤ length (S.bits source.now) }
         requires short { about.window.end ≤ 2147483647 }
-        ensures { InsideMoved (description tables.now) (S.Source.bits source.now) (object_of about) self.old p result self.new }
+        ensures { InsideMoved (description tables.now) (S.bits source.now) (object_of about) self.old p result self.new }
     {
         let i = self.extension;
         let table: &[Extension] = &tables.extensions;
@@ -75,9 +75,9 @@ impl Inside {
         requires fit { Fit (description tables.now) (Lines at count ∷ frames self.old.frames) }
         requires readable { Readable (description tables.now) }
         requires near { p ≤ 2147483647 }
-        requires within { about.window.end ≤ length (S.Source.bits source.now) }
+        requires within { about.window.end ≤ length (S.bits source.now) }
         requires short { about.window.end ≤ 2147483647 }
-        ensures { FrameMoved (description tables.now) (S.Source.bits source.now) (object_of about) (Lines at count) self.old p result self.new }
+        ensures { FrameMoved (description tables.now) (S.bits source.now) (object_of about) (Lines at count) self.old p result self.new }
     {
         match next_line(&tables.lines, at, count) {
             Upcoming::NoLine => Move::Quiet { place: p },
@@ -94,9 +94,9 @@ impl Inside {
         requires fit { Fit (description tables.now) (frames self.old.frames) }
         requires readable { Readable (description tables.now) }
         requires near { p ≤ 2147483647 }
-        requires within { about.window.end ≤ length (S.Source.bits source.now) }
+        requires within { about.window.end ≤ length (S.bits source.now) }
         requires short { about.window.end ≤ 2147483647 }
-        ensures { InsideMoved (description tables.now) (S.Source.bits source.now) (object_of about) self.old p result self.new }
+        ensures { InsideMoved (description tables.now) (S.bits source.now) (object_of about) self.old p result self.new }
     {
         match self.frames.pop() {
             None => self.extend(source, tables, about, p),

@@ -15,7 +15,7 @@ pub trait Test {
 
 // The first record, of those numbered 1 to `count`, that passes the test.
 pub fn first<P: Test>(test: &P, loaded: &Loaded, count: usize) -> Option<usize>
-    ensures { result ≡ first_upto (passes test.now (description loaded.now)) count }
+    ensures { result ≡ first_upto (P.passes test.now (description loaded.now)) count }
 {
     for i in 0..count {
         if test.holds(loaded, i + 1) {
@@ -27,7 +27,7 @@ pub fn first<P: Test>(test: &P, loaded: &Loaded, count: usize) -> Option<usize>
 
 // Whether one of them passes.
 pub fn some<P: Test>(test: &P, loaded: &Loaded, count: usize) -> bool
-    ensures { result ≡ some_upto (passes test.now (description loaded.now)) count }
+    ensures { result ≡ some_upto (P.passes test.now (description loaded.now)) count }
 {
     match first(test, loaded, count) {
         Some(_) => true,
@@ -37,7 +37,7 @@ pub fn some<P: Test>(test: &P, loaded: &Loaded, count: usize) -> bool
 
 // How many of them pass.
 pub fn count<P: Test>(test: &P, loaded: &Loaded, count: usize) -> usize
-    ensures value { result ≡ count_upto (passes test.now (description loaded.now)) count }
+    ensures value { result ≡ count_upto (P.passes test.now (description loaded.now)) count }
     ensures bound { result ≤ count }
 {
     let mut found = 0;

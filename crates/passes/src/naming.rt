@@ -40,7 +40,7 @@ pub fn pass<P: Test>(
     loaded: &Loaded,
     count: usize,
 ) -> Option<Fault>
-    ensures { result ≡ named cause table (first_upto (passes test.now (description loaded.now)) count) }
+    ensures { result ≡ named cause table (first_upto (P.passes test.now (description loaded.now)) count) }
 {
     named(cause, table, first(test, loaded, count))
 }

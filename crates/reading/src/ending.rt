@@ -6,8 +6,8 @@ use bits::zero::is_zero;
 
 // Whether fewer than eight bits, all 0, are left from a place on.
 pub(crate) fn at_end<S: Source>(source: &S, count: u32, p: u32) -> bool
-    requires { count ≡ length (S.Source.bits source.now) }
-    ensures { result ≡ (nat_lt (length (S.Source.bits source.now) - p) 8 && number (drop p (S.Source.bits source.now)) == 0) }
+    requires { count ≡ length (S.bits source.now) }
+    ensures { result ≡ (nat_lt (length (S.bits source.now) - p) 8 && number (drop p (S.bits source.now)) == 0) }
 {
     if p >= count {
         return true;

@@ -39,7 +39,7 @@ pub enum Filled {
 impl<'d, S: Source> Reading<'d, S> {
     // A reading of a source by a checked description.
     pub fn open(checked: &'d Checked, source: S) -> Reading<'d, S>
-        ensures ahead { ahead S.Source.bits result ≡ reading (description checked.now.loaded) (S.Source.bits source) }
+        ensures ahead { ahead S.bits result ≡ reading (description checked.now.loaded) (S.bits source) }
         ensures position { position_of result ≡ 0 }
     {
         Reading::begin(checked.tables(), source)
@@ -48,7 +48,7 @@ impl<'d, S: Source> Reading<'d, S> {
     // A reading of a source, at its beginning.
     fn begin(tables: &'d Loaded, source: S) -> Reading<'d, S>
         requires { Readable (description tables.now) }
-        ensures ahead { ahead S.Source.bits result ≡ reading (description tables.now) (S.Source.bits source) }
+        ensures ahead { ahead S.bits result ≡ reading (description tables.now) (S.bits source) }
         ensures position { position_of result ≡ 0 }
     {
         Reading {
@@ -64,9 +64,9 @@ impl<'d, S: Source> Reading<'d, S> {
 impl<S: Source> Reading<'_, S> {
     // The next item, or none at the end, or why the source is refused.
     pub fn next(&mut self) -> Result<Option<Item>, ReadingFault>
-        ensures next { Next (ahead S.Source.bits self.old) result (ahead S.Source.bits self.new) }
+        ensures next { Next (ahead S.bits self.old) result (ahead S.bits self.new) }
         ensures position { Positioned (position_of self.old) result (position_of self.new) (place_of self.new) }
-        ensures told { Told (ahead S.Source.bits self.old) result (ahead S.Source.bits self.new) }
+        ensures told { Told (ahead S.bits self.old) result (ahead S.bits self.new) }
     {
         if let Some(fault) = self.fault {
             return Err(fault);
@@ -96,7 +96,7 @@ impl<S: Source> Reading<'_, S> {
 
     // Hands items out into a table until it is full, which is tested first, or the reading ends or is refused. Answers how many.
     pub fn fill(&mut self, table: &mut [Item]) -> (usize, Filled)
-        ensures { Fills (ahead S.Source.bits self.old) table.old result.0 result.1 table.new (ahead S.Source.bits self.new) }
+        ensures { Fills (ahead S.bits self.old) table.old result.0 result.1 table.new (ahead S.bits self.new) }
     {
         let mut count = 0;
         while count < table.len() {

@@ -208,9 +208,9 @@ impl Walk {
         requires sound { Sound (description tables.now) self.old }
         requires readable { Readable (description tables.now) }
         requires writes { used.receiving ≤ 128 }
-        requires within { window.end ≤ length (S.Source.bits source.now) }
+        requires within { window.end ≤ length (S.bits source.now) }
         requires short { window.end ≤ 2147483647 }
-        ensures { Turned (description tables.now) (S.Source.bits source.now) (beginning (description tables.now) (S.Source.bits source.now) (objects_of self.old) used.line used.class used.index used.carried used.receiving window self.old.place) result self.new }
+        ensures { Turned (description tables.now) (S.bits source.now) (beginning (description tables.now) (S.bits source.now) (objects_of self.old) used.line used.class used.index used.carried used.receiving window self.old.place) result self.new }
     {
         if self.depth >= MOST {
             let failure = Failure {
@@ -236,8 +236,8 @@ impl Walk {
     fn finish<S: Source>(&self, source: &S, count: u32) -> Turn
         requires begun { self.now.started ≡ true }
         requires none { objects_of self.now ≡ [] }
-        requires count { count ≡ length (S.Source.bits source.now) }
-        ensures { (d : Description) → Sound d self.now → Turned d (S.Source.bits source.now) (walk_ahead d (S.Source.bits source.now) self.now) result self.now }
+        requires count { count ≡ length (S.bits source.now) }
+        ensures { (d : Description) → Sound d self.now → Turned d (S.bits source.now) (walk_ahead d (S.bits source.now) self.now) result self.now }
     {
         if at_end(source, count, self.place) {
             return Turn::End;
@@ -271,7 +271,7 @@ impl Walk {
     pub(crate) fn step<S: Source>(&mut self, source: &S, tables: &Loaded) -> Turn
         requires sound { Sound (description tables.now) self.old }
         requires readable { Readable (description tables.now) }
-        ensures { Turned (description tables.now) (S.Source.bits source.now) (walk_ahead (description tables.now) (S.Source.bits source.now) self.old) result self.new }
+        ensures { Turned (description tables.now) (S.bits source.now) (walk_ahead (description tables.now) (S.bits source.now) self.old) result self.new }
     {
         let count = source.length();
         if !self.started {
@@ -316,8 +316,8 @@ impl Walk {
     // Begins the top object.
     fn start<S: Source>(&mut self, source: &S, tables: &Loaded, count: u32) -> Turn
         requires readable { Readable (description tables.now) }
-        requires whole { count ≡ length (S.Source.bits source.now) }
-        ensures { Turned (description tables.now) (S.Source.bits source.now) (reading (description tables.now) (S.Source.bits source.now)) result self.new }
+        requires whole { count ≡ length (S.bits source.now) }
+        ensures { Turned (description tables.now) (S.bits source.now) (reading (description tables.now) (S.bits source.now)) result self.new }
     {
         self.depth = 0;
         self.place = 0;

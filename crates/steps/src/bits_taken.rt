@@ -20,9 +20,9 @@ fn ends(window: Window) -> Failure
 
 // The number of the next n bits.
 pub fn taken<S: Source>(source: &S, window: Window, n: u32, p: u32) -> Result<u64, Failure>
-    requires within { window.end ≤ length (S.Source.bits source.now) }
+    requires within { window.end ≤ length (S.bits source.now) }
     requires narrow { n ≤ 32 }
-    ensures value { result ≡ taken (S.Source.bits source.now) window n p }
+    ensures value { result ≡ taken (S.bits source.now) window n p }
     ensures bound { IfOk result (λ v. (v < 2 ^ n) × (p + n ≤ window.end)) }
 {
     if u64::from(p) + u64::from(n) > u64::from(window.end) {
@@ -49,9 +49,9 @@ fn next_multiple(of: u16, p: u32) -> u32
 
 // The place after alignment; the skipped bits must be there, and be 0.
 pub fn aligned<S: Source>(source: &S, window: Window, to: u16, p: u32) -> Result<u32, Failure>
-    requires within { window.end ≤ length (S.Source.bits source.now) }
+    requires within { window.end ≤ length (S.bits source.now) }
     requires place { p ≤ 2147483647 }
-    ensures value { result ≡ aligned (S.Source.bits source.now) window to p }
+    ensures value { result ≡ aligned (S.bits source.now) window to p }
     ensures bound { IfOk result (λ q. (p ≤ q) × (q ≤ window.end)) }
 {
     let q = next_multiple(to, p);

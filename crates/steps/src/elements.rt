@@ -56,9 +56,9 @@ pub fn element<S: Source>(
     line: ReadLine,
     p: u32,
 ) -> Result<Got, Failure>
-    requires within { window.end ≤ length (S.Source.bits source.now) }
+    requires within { window.end ≤ length (S.bits source.now) }
     requires place { p ≤ 2147483647 }
-    ensures value { result ≡ element (S.Source.bits source.now) window line (value nodes.now size (named_by names.now) line.width) (value nodes.now size (named_by names.now) line.lowest) (value nodes.now size (named_by names.now) line.highest) p }
+    ensures value { result ≡ element (S.bits source.now) window line (value nodes.now size (named_by names.now) line.width) (value nodes.now size (named_by names.now) line.lowest) (value nodes.now size (named_by names.now) line.highest) p }
     ensures bound { IfOk result (λ g. g.after ≤ window.end) }
 {
     let place = aligned(source, window, line.alignment, p)?;

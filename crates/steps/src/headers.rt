@@ -15,9 +15,9 @@ fn size_bytes<S: Source>(
     high: u32,
     p: u32,
 ) -> Result<(u32, u32), Failure>
-    requires within { window.end ≤ length (S.Source.bits source.now) }
+    requires within { window.end ≤ length (S.bits source.now) }
     requires room { (high + 1) * 128 ^ left ≤ 268435456 }
-    ensures value { result ≡ size_bytes (S.Source.bits source.now) window left high p }
+    ensures value { result ≡ size_bytes (S.bits source.now) window left high p }
     ensures bound { IfOk result (λ s. (s.0 < 268435456) × (p ≤ s.1) × (s.1 ≤ window.end)) }
 {
     if left == 0 {
@@ -40,10 +40,10 @@ fn sized<S: Source>(
     greatest: u16,
     p: u32,
 ) -> Result<(u32, u32), Failure>
-    requires within { window.end ≤ length (S.Source.bits source.now) }
+    requires within { window.end ≤ length (S.bits source.now) }
     requires short { window.end ≤ 2147483647 }
     requires place { p ≤ window.end }
-    ensures value { result ≡ sized (S.Source.bits source.now) window greatest p }
+    ensures value { result ≡ sized (S.bits source.now) window greatest p }
     ensures bound { IfOk result (λ s. (s.0 ≤ greatest) × (p ≤ s.1) × (s.1 + 8 * s.0 ≤ window.end)) }
 {
     if greatest == 0 {
@@ -93,11 +93,11 @@ pub fn header<S: Source>(
     greatest: u16,
     p: u32,
 ) -> Result<Header, Failure>
-    requires within { window.end ≤ length (S.Source.bits source.now) }
+    requires within { window.end ≤ length (S.bits source.now) }
     requires short { window.end ≤ 2147483647 }
     requires place { p ≤ 2147483647 }
     requires width { declared.width ≤ 16 }
-    ensures value { result ≡ header (S.Source.bits source.now) window declared greatest p }
+    ensures value { result ≡ header (S.bits source.now) window declared greatest p }
     ensures bound { IfOk result (λ h. (p ≤ h.place) × (h.place ≤ h.after) × (h.after + 8 * h.size ≤ window.end)) }
 {
     let place = aligned(source, window, alignment(greatest), p)?;

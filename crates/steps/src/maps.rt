@@ -46,9 +46,9 @@ pub fn map_read<S: Source>(
     map: Map,
     p: u32,
 ) -> Result<Got, Failure>
-    requires within { window.end ≤ length (S.Source.bits source.now) }
+    requires within { window.end ≤ length (S.bits source.now) }
     requires width { map.width ≤ 16 }
-    ensures value { (d : Description) → d.rows ≡ rows.now → result ≡ mapped (S.Source.bits source.now) window map.width (find_row d map.first map.number) p }
+    ensures value { (d : Description) → d.rows ≡ rows.now → result ≡ mapped (S.bits source.now) window map.width (find_row d map.first map.number) p }
     ensures bound { IfOk result (λ g. (p ≤ g.after) × (g.after ≤ window.end)) }
 {
     let length = u32::from(map.width);

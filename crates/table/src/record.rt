@@ -52,8 +52,8 @@ pub(crate) fn word(bytes: &[u8], at: usize) -> u16
 
 // The record at `at`.
 fn read_record<R: Record>(bytes: &[u8], at: usize) -> R
-    requires { at + 2 * width ≤ length bytes.now }
-    ensures { result ≡ decoded (words_at bytes.now at width) }
+    requires { at + 2 * R.width ≤ length bytes.now }
+    ensures { result ≡ R.decoded (words_at bytes.now at R.width) }
 {
     let n = R::field_count();
     let mut fields = [0u16; MOST];
@@ -70,8 +70,8 @@ pub(crate) fn read_table<R: Record>(
     at: usize,
     count: u16,
 ) -> Result<Vec<R>, AllocError>
-    requires { at + count * (2 * width) ≤ length bytes.now }
-    ensures items { IfOk result (λ v. v.items ≡ records_at decoded width bytes.now at count) }
+    requires { at + count * (2 * R.width) ≤ length bytes.now }
+    ensures items { IfOk result (λ v. v.items ≡ records_at R.decoded R.width bytes.now at count) }
     ensures len { IfOk result (λ v. vec_len v ≡ count) }
 {
     let mut table = Vec::new(heap);
@@ -84,7 +84,7 @@ pub(crate) fn read_table<R: Record>(
 
 // Record number n of a table, or what stands for one that is not there.
 pub fn record_at<R: Record>(table: &[R], n: usize) -> R
-    ensures { result ≡ entry table.now n none }
+    ensures { result ≡ entry table.now n R.none }
 {
     if n == 0 || n > table.len() {
         R::absent()
@@ -95,7 +95,7 @@ pub fn record_at<R: Record>(table: &[R], n: usize) -> R
 
 // The first record of a table that breaks the rule for its fields, whatever the kind.
 pub fn first_broken<R: Record>(table: &[R], counts: Counts) -> Option<usize>
-    ensures { result ≡ first_upto (broken_at (broken counts) none table.now) (length table.now) }
+    ensures { result ≡ first_upto (broken_at (R.broken counts) R.none table.now) (length table.now) }
 {
     for i in 0..table.len() {
         if table[i].breaks(counts, i + 1) {

@@ -13,8 +13,8 @@ loop-left-preserved c =
     let v = c.args.value in
     let q : at / 8 * 8 + at % 8 ≡ at = omega arith in
     let w : m + k ≡ c.loop-left.left = omega arith in
-    let stored : bits_all 8 (set xs (at / 8) c.with-piece.result) ≡ with_bits (bits_all 8 xs) at m (v / 2 ^ k) =
-    ap (λ t. bits_all 8 (set xs (at / 8) t)) c.with-piece.ensures ∙ (put_piece xs (at / 8) (at % 8) m (8 - at % 8 - m) (v / 2 ^ k) (omega arith) (omega arith) ∙ ap (λ t. with_bits (bits_all 8 xs) t m (v / 2 ^ k)) q) in
+    let stored : bits_all 8 (set xs (at / 8) c.with_piece.result) ≡ with_bits (bits_all 8 xs) at m (v / 2 ^ k) =
+    ap (λ t. bits_all 8 (set xs (at / 8) t)) c.with_piece.ensures ∙ (put_piece xs (at / 8) (at % 8) m (8 - at % 8 - m) (v / 2 ^ k) (omega arith) (omega arith) ∙ ap (λ t. with_bits (bits_all 8 xs) t m (v / 2 ^ k)) q) in
     (omega arith, omega arith, ap (λ t. with_bits t (at + m) k v) stored ∙ (put_more (bits_all 8 xs) at m k v (rw length-bits_all (omega arith)) ∙ (ap (λ t. with_bits (bits_all 8 xs) at t v) w ∙ c.loop-left.invariant.2)))
 
 pub returns : goal.returns

@@ -2,8 +2,8 @@ use Rattle.std.proofs.Common.{arith}
 use Rattle.bits.proofs.Puts.{masked, with_piece_lt}
 use Rattle.bits.proofs.put.with_piece.Goals as goal
 
-pub overflow-cast-result : goal.overflow-cast-result
-overflow-cast-result c =
+pub overflow_cast-result : goal.overflow_cast-result
+overflow_cast-result c =
     rw (masked c.args.byte c.args.m c.args.tail c.args.x (omega arith) (omega arith))
     (record { fits = with_piece_lt c.args.byte c.args.m c.args.tail c.args.x (omega arith) (omega arith) })
 

@@ -14,8 +14,8 @@ returns-then-piece-ne0 g c =
     let l = g.S.Source.bits c.args.source.now in
     let at = c.loop-at.at in
     let n = c.min-n.result in
-    let piece = c.in-ok-piece.piece in
-    let other : all_zero (part l at n) ≡ false = zero_got l at n piece c.in-ok-piece.ensures ∙ ne_eqb piece 0 (λ e. omega arith) in
+    let piece = c.in_ok-piece.piece in
+    let other : all_zero (part l at n) ≡ false = zero_got l at n piece c.in_ok-piece.ensures ∙ ne_eqb piece 0 (λ e. omega arith) in
     let inside : c.args.from + c.args.count ≤ length l = omega arith in
     rw (le-ltb (length l) (c.args.from + c.args.count) inside, zero_not l c.args.from c.args.count at n (omega arith) (omega arith) other)
 
@@ -24,6 +24,6 @@ loop-at-preserved g c =
     let l = g.S.Source.bits c.args.source.now in
     let at = c.loop-at.at in
     let n = c.min-n.result in
-    let piece = c.in-ok-piece.piece in
-    let more : all_zero (part l at n) ≡ true = zero_got l at n piece c.in-ok-piece.ensures ∙ eq-eqb piece 0 (omega arith) in
+    let piece = c.in_ok-piece.piece in
+    let more : all_zero (part l at n) ≡ true = zero_got l at n piece c.in_ok-piece.ensures ∙ eq-eqb piece 0 (omega arith) in
     (omega arith, omega arith, zero_more l c.args.from at n (omega arith) c.loop-at.invariant.2 more)

@@ -17,7 +17,7 @@ returns-else-deeper t c =
     let m = deeper_more c.args.levels (description c.args.loaded.now) c.args.n (omega arith) in
     rw m (grind (arith, nat_tests))
 
-pub returns-else-is-operator : goal.returns-else-is-operator
-returns-else-is-operator t c =
+pub returns-else-is_operator : goal.returns-else-is_operator
+returns-else-is_operator t c =
     let m = deeper_more c.args.levels (description c.args.loaded.now) c.args.n (omega arith) in
     rw m (grind (arith, nat_tests))

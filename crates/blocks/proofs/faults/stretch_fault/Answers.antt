@@ -8,4 +8,4 @@ use Rattle.blocks.proofs.faults.stretch_fault.Goals as goal
 
 pub returns : goal.returns
 returns c =
-    c.outside-fault.ensures ∙ ap (λ (o : Option ℕ). named Stretch Lines o) (only_outside (description c.args.loaded.now) (sym c.if-some-unsound.ensures))
+    c.outside_fault.ensures ∙ ap (λ (o : Option ℕ). named Stretch Lines o) (only_outside (description c.args.loaded.now) (sym c.if-some_unsound.ensures))

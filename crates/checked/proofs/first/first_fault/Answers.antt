@@ -8,8 +8,8 @@ use Rattle.checked.proofs.first.first_fault.Goals as goal
 pub returns : goal.returns
 returns c =
     record {
-      value = c.by-rules.ensures;
+      value = c.by_rules.ensures;
       law =
-          subst (λ (o : Option Fault). Says (rules (description c.args.loaded.now)) o) (sym c.by-rules.ensures)
+          subst (λ (o : Option Fault). Says (rules (description c.args.loaded.now)) o) (sym c.by_rules.ensures)
           (first_fault_law (description c.args.loaded.now));
     }

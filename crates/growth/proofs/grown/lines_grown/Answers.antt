@@ -7,12 +7,12 @@ use Rattle.growth.proofs.grown.lines_grown.Goals as goal
 pub loop-i-preserved : goal.loop-i-preserved
 loop-i-preserved c =
     c.loop-i.invariant ∙ every_at (line_grown c.args.names) c.args.newer.now c.loop-i.i no_line c.loop-i-test.true ∙
-    ap (λ b. b && every (line_grown c.args.names) (drop (c.loop-i.i + 1) c.args.newer.now)) (sym c.if-not-line-grown.ensures)
+    ap (λ b. b && every (line_grown c.args.names) (drop (c.loop-i.i + 1) c.args.newer.now)) (sym c.if-not-line_grown.ensures)
 
-pub returns-then-not-line-grown : goal.returns-then-not-line-grown
-returns-then-not-line-grown c =
+pub returns-then-not-line_grown : goal.returns-then-not-line_grown
+returns-then-not-line_grown c =
     sym (c.loop-i.invariant ∙ every_at (line_grown c.args.names) c.args.newer.now c.loop-i.i no_line c.loop-i-test.true ∙
-    ap (λ b. b && every (line_grown c.args.names) (drop (c.loop-i.i + 1) c.args.newer.now)) (sym c.if-not-line-grown.ensures))
+    ap (λ b. b && every (line_grown c.args.names) (drop (c.loop-i.i + 1) c.args.newer.now)) (sym c.if-not-line_grown.ensures))
 
 pub returns : goal.returns
 returns c = sym (c.loop-i.invariant ∙ every_end (line_grown c.args.names) c.args.newer.now c.loop-i.i c.loop-i-test.false)

@@ -7,8 +7,8 @@ use Rattle.owners.proofs.lines.classes_of_lines.Goals as goal
 pub loop-i-preserved : goal.loop-i-preserved
 loop-i-preserved c = (
   simp length-set c.loop-i.invariant.0,
-  simp c.class-of-line.ensures (fill_by_more (λ k. class_of_line (description c.args.loaded.now) (k + 1)) c.loop-i.classes c.loop-i.i 0 (omega arith) c.loop-i.invariant.1),
+  simp c.class_of_line.ensures (fill_by_more (λ k. class_of_line (description c.args.loaded.now) (k + 1)) c.loop-i.classes c.loop-i.i 0 (omega arith) c.loop-i.invariant.1),
 )
 
 pub returns : goal.returns
-returns c = λ k h. c.loop-i.invariant.1 k (omega (arith, h, c.line-count-i-end.ensures.value))
+returns c = λ k h. c.loop-i.invariant.1 k (omega (arith, h, c.line_count-i-end.ensures.value))

@@ -14,13 +14,13 @@ loop-i-init c = (
 pub loop-i-preserved : goal.loop-i-preserved
 loop-i-preserved c = (
   simp length-set c.loop-i.invariant.0,
-  marked_more (description c.args.loaded.now) c.args.x c.loop-i.marks c.loop-i.i c.marks-next.result (omega (arith, c.loop-i.invariant.0, c.node-count-i-end.ensures.bound)) c.loop-i.invariant.1 c.marks-next.ensures,
-  unmarked_more (description c.args.loaded.now) c.args.x c.loop-i.marks c.loop-i.i c.marks-next.result c.loop-i.invariant.2,
+  marked_more (description c.args.loaded.now) c.args.x c.loop-i.marks c.loop-i.i c.marks_next.result (omega (arith, c.loop-i.invariant.0, c.node_count-i-end.ensures.bound)) c.loop-i.invariant.1 c.marks_next.ensures,
+  unmarked_more (description c.args.loaded.now) c.args.x c.loop-i.marks c.loop-i.i c.marks_next.result c.loop-i.invariant.2,
 )
 
 pub returns : goal.returns
 returns c = λ r.
     elim (leb_tells r c.loop-i.i) [
       | inl t ↦ c.loop-i.invariant.1 r (omega (arith, t.1))
-      | inr t ↦ c.loop-i.invariant.2 r (omega (arith, t.1)) ∙ reaches_past (description c.args.loaded.now) c.args.x r (omega (arith, t.1, c.node-count-i-end.ensures.value)) c.requires.1
+      | inr t ↦ c.loop-i.invariant.2 r (omega (arith, t.1)) ∙ reaches_past (description c.args.loaded.now) c.args.x r (omega (arith, t.1, c.node_count-i-end.ensures.value)) c.requires.1
     ]

@@ -13,6 +13,6 @@ loop-i-preserved g c = (
 
 pub returns : goal.returns
 returns g c =
-    let w = c.field-count-n.ensures.value in
-    let t = filled (λ k. word_at c.args.bytes.now (c.args.at + 2 * k)) c.loop-i.fields c.field-count-n.result (omega arith) (λ k h. c.loop-i.invariant.1 k (omega arith)) in
-    c.from-fields.ensures ∙ ap g.R.Record.decoded (rw (sub-zero c.field-count-n.result, ← w) t)
+    let w = c.field_count-n.ensures.value in
+    let t = filled (λ k. word_at c.args.bytes.now (c.args.at + 2 * k)) c.loop-i.fields c.field_count-n.result (omega arith) (λ k h. c.loop-i.invariant.1 k (omega arith)) in
+    c.from_fields.ensures ∙ ap g.R.Record.decoded (rw (sub-zero c.field_count-n.result, ← w) t)

@@ -13,7 +13,7 @@ returns-then-left-k t c =
 
 pub returns-in-err-x : goal.returns-in-err-x
 returns-in-err-x t c =
-    let p = err_from_is_err_and c.from-residual.result c.from-residual.ensures.1 in
+    let p = err_from_is_err_and c.from_residual.result c.from_residual.ensures.1 in
     rw (p.1, p.2)
     (left_fails c.args.nodes.now c.args.size (named_by c.args.names.now) c.args.k _ _ _ c.in-Apply.ensures c.if-left-k.false c.in-err-x.ensures)
 
@@ -37,8 +37,8 @@ returns-in-Constant t c =
 
 pub returns-in-Named : goal.returns-in-Named
 returns-in-Named t c =
-    let f : SFits w64 c.name-at.result = search rules in
-    ap Ok (to_z-of_z f ∙ c.name-at.ensures) ∙ at_named c.args.nodes.now c.args.size (named_by c.args.names.now) c.args.k _ c.in-Named.ensures
+    let f : SFits w64 c.name_at.result = search rules in
+    ap Ok (to_z-of_z f ∙ c.name_at.ensures) ∙ at_named c.args.nodes.now c.args.size (named_by c.args.names.now) c.args.k _ c.in-Named.ensures
 
 pub returns-in-OwnSize : goal.returns-in-OwnSize
 returns-in-OwnSize t c =

@@ -16,4 +16,4 @@ returns-then-k-eq0 c =
 pub returns : goal.returns
 returns c =
     let some : 0 < c.args.k = omega arith in
-    c.term-of.ensures ∙ ap term (sym (entry_at c.args.nodes.now c.args.k no_node some))
+    c.term_of.ensures ∙ ap term (sym (entry_at c.args.nodes.now c.args.k no_node some))

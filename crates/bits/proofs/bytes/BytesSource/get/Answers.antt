@@ -4,17 +4,17 @@ use Rattle.bits.specs.Bits.{bits_all, number, limited, longest}
 use Rattle.bits.proofs.Gets.{length_numbers, got_numbers}
 use Rattle.bits.proofs.bytes.BytesSource.get.Goals as goal
 
-pub slice-bounds-rest-count : goal.slice-bounds-rest-count
-slice-bounds-rest-count c = omega (arith, length_numbers 8 c.args.self.now.bytes.now)
+pub slice_bounds-rest-count : goal.slice_bounds-rest-count
+slice_bounds-rest-count c = omega (arith, length_numbers 8 c.args.self.now.bytes.now)
 
-pub slice-bounds-rest-start : goal.slice-bounds-rest-start
-slice-bounds-rest-start c = omega (arith, length_numbers 8 c.args.self.now.bytes.now)
+pub slice_bounds-rest-start : goal.slice_bounds-rest-start
+slice_bounds-rest-start c = omega (arith, length_numbers 8 c.args.self.now.bytes.now)
 
-pub overflow-sub-rest : goal.overflow-sub-rest
-overflow-sub-rest c = omega (arith, length_numbers 8 c.args.self.now.bytes.now)
+pub overflow_sub-rest : goal.overflow_sub-rest
+overflow_sub-rest c = omega (arith, length_numbers 8 c.args.self.now.bytes.now)
 
-pub overflow-sub-rest-2 : goal.overflow-sub-rest-2
-overflow-sub-rest-2 c = omega (arith, length_numbers 8 c.args.self.now.bytes.now)
+pub overflow_sub-rest-2 : goal.overflow_sub-rest-2
+overflow_sub-rest-2 c = omega (arith, length_numbers 8 c.args.self.now.bytes.now)
 
 pub returns-then-rest-ge-REACH : goal.returns-then-rest-ge-REACH
 returns-then-rest-ge-REACH c =
