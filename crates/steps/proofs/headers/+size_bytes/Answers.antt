@@ -10,38 +10,38 @@ returns-then-left-eq0 g t c =
       bound = tt;
     }
 
-pub returns-in-err-byte : goal.returns-in-err-byte
-returns-in-err-byte g t c =
-    let p = err_from_is_err_and c.from-residual.result c.from-residual.ensures.1 in
-    rw (p.1, p.2) (record { value = size_fails (g.S.Source.bits c.args.source.now) c.args.window c.args.left c.args.high c.args.p (omega arith) _ c.in-err-byte.ensures.value; bound = tt })
+pub returns-in_err-byte : goal.returns-in_err-byte
+returns-in_err-byte g t c =
+    let p = err_from_is_err_and c.from_residual.result c.from_residual.ensures.1 in
+    rw (p.1, p.2) (record { value = size_fails (g.S.Source.bits c.args.source.now) c.args.window c.args.left c.args.high c.args.p (omega arith) _ c.in_err-byte.ensures.value; bound = tt })
 
-pub overflow-mul-result : goal.overflow-mul-result
-overflow-mul-result g t c = let r = room_here c.args.left c.args.high (omega arith) c.requires.room in omega arith
+pub overflow_mul-result : goal.overflow_mul-result
+overflow_mul-result g t c = let r = room_here c.args.left c.args.high (omega arith) c.requires.room in omega arith
 
-pub overflow-add-result : goal.overflow-add-result
-overflow-add-result g t c = let r = room_here c.args.left c.args.high (omega arith) c.requires.room in omega arith
+pub overflow_add-result : goal.overflow_add-result
+overflow_add-result g t c = let r = room_here c.args.left c.args.high (omega arith) c.requires.room in omega arith
 
 pub returns-then-byte-lt128 : goal.returns-then-byte-lt128
 returns-then-byte-lt128 g t c =
     record {
-      value = size_ends (g.S.Source.bits c.args.source.now) c.args.window c.args.left c.args.high c.args.p (omega arith) c.in-ok-byte.field-0 c.in-ok-byte.ensures.value c.if-byte-lt128.true;
-      bound = (let r = room_here c.args.left c.args.high (omega arith) c.requires.room in (omega arith, omega arith, c.in-ok-byte.ensures.bound.1));
+      value = size_ends (g.S.Source.bits c.args.source.now) c.args.window c.args.left c.args.high c.args.p (omega arith) c.in_ok-byte.field-0 c.in_ok-byte.ensures.value c.if-byte-lt128.true;
+      bound = (let r = room_here c.args.left c.args.high (omega arith) c.requires.room in (omega arith, omega arith, c.in_ok-byte.ensures.bound.1));
     }
 
-pub overflow-mul-high : goal.overflow-mul-high
-overflow-mul-high g t c = let r = room_here c.args.left c.args.high (omega arith) c.requires.room in omega arith
+pub overflow_mul-high : goal.overflow_mul-high
+overflow_mul-high g t c = let r = room_here c.args.left c.args.high (omega arith) c.requires.room in omega arith
 
-pub overflow-add-high : goal.overflow-add-high
-overflow-add-high g t c = let r = room_here c.args.left c.args.high (omega arith) c.requires.room in omega arith
+pub overflow_add-high : goal.overflow_add-high
+overflow_add-high g t c = let r = room_here c.args.left c.args.high (omega arith) c.requires.room in omega arith
 
-pub size-bytes-requires : goal.size-bytes-requires
-size-bytes-requires g t c κs within =
-    let r = room_after c.args.left c.args.high (omega arith) c.requires.room (c.in-ok-byte.field-0 % 128) (omega arith) in
+pub size_bytes-requires : goal.size_bytes-requires
+size_bytes-requires g t c κs within =
+    let r = room_after c.args.left c.args.high (omega arith) c.requires.room (c.in_ok-byte.field-0 % 128) (omega arith) in
     search rules
 
 pub returns : goal.returns
 returns g t c =
     record {
-      value = c.size-bytes.ensures.value ∙ size_goes (g.S.Source.bits c.args.source.now) c.args.window c.args.left c.args.high c.args.p (omega arith) c.in-ok-byte.field-0 c.in-ok-byte.ensures.value c.if-byte-lt128.false;
-      bound = IfOk-weaker c.size-bytes.result _ (λ s. (s.0 < 268435456) × (c.args.p ≤ s.1) × (s.1 ≤ c.args.window.end)) (λ s h. (h.0, omega (arith, h.1), h.2)) c.size-bytes.ensures.bound;
+      value = c.size_bytes.ensures.value ∙ size_goes (g.S.Source.bits c.args.source.now) c.args.window c.args.left c.args.high c.args.p (omega arith) c.in_ok-byte.field-0 c.in_ok-byte.ensures.value c.if-byte-lt128.false;
+      bound = IfOk-weaker c.size_bytes.result _ (λ s. (s.0 < 268435456) × (c.args.p ≤ s.1) × (s.1 ≤ c.args.window.end)) (λ s h. (h.0, omega (arith, h.1), h.2)) c.size_bytes.ensures.bound;
     }

@@ -1,4 +1,4 @@
 use Rattle.steps.proofs.headers.+size_bytes.Given as goal
 
-abbrev pub decreases-size-bytes : goal.decreases-size-bytes
-decreases-size-bytes g l = l.left
+abbrev pub decreases-size_bytes : goal.decreases-size_bytes
+decreases-size_bytes g l = l.left

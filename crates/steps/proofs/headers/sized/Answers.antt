@@ -10,28 +10,28 @@ returns-then-greatest-eq0 g c =
       bound = (omega arith, omega arith, omega arith);
     }
 
-pub returns-in-err-size : goal.returns-in-err-size
-returns-in-err-size g c =
-    let p = err_from_is_err_and c.from-residual.result c.from-residual.ensures.1 in
-    rw (p.1, p.2) (record { value = sized_fails (g.S.Source.bits c.args.source.now) c.args.window c.args.greatest c.args.p (omega arith) _ c.in-err-size.ensures.value; bound = tt })
+pub returns-in_err-size : goal.returns-in_err-size
+returns-in_err-size g c =
+    let p = err_from_is_err_and c.from_residual.result c.from_residual.ensures.1 in
+    rw (p.1, p.2) (record { value = sized_fails (g.S.Source.bits c.args.source.now) c.args.window c.args.greatest c.args.p (omega arith) _ c.in_err-size.ensures.value; bound = tt })
 
 pub returns-then-size-greatest : goal.returns-then-size-greatest
 returns-then-size-greatest g c =
     record {
-      value = sized_large (g.S.Source.bits c.args.source.now) c.args.window c.args.greatest c.args.p (omega arith) c.in-ok-size.size c.in-ok-size.after c.in-ok-size.ensures.value c.if-size-greatest.true;
+      value = sized_large (g.S.Source.bits c.args.source.now) c.args.window c.args.greatest c.args.p (omega arith) c.in_ok-size.size c.in_ok-size.after c.in_ok-size.ensures.value c.if-size-greatest.true;
       bound = tt;
     }
 
 pub returns-then-after-size : goal.returns-then-after-size
 returns-then-after-size g c =
     record {
-      value = sized_past (g.S.Source.bits c.args.source.now) c.args.window c.args.greatest c.args.p (omega arith) c.in-ok-size.size c.in-ok-size.after c.in-ok-size.ensures.value c.if-size-greatest.false c.if-after-size.true;
+      value = sized_past (g.S.Source.bits c.args.source.now) c.args.window c.args.greatest c.args.p (omega arith) c.in_ok-size.size c.in_ok-size.after c.in_ok-size.ensures.value c.if-size-greatest.false c.if-after-size.true;
       bound = tt;
     }
 
 pub returns : goal.returns
 returns g c =
     record {
-      value = sized_fits (g.S.Source.bits c.args.source.now) c.args.window c.args.greatest c.args.p (omega arith) c.in-ok-size.size c.in-ok-size.after c.in-ok-size.ensures.value c.if-size-greatest.false c.if-after-size.false;
-      bound = (c.if-size-greatest.false, c.in-ok-size.ensures.bound.1, c.if-after-size.false);
+      value = sized_fits (g.S.Source.bits c.args.source.now) c.args.window c.args.greatest c.args.p (omega arith) c.in_ok-size.size c.in_ok-size.after c.in_ok-size.ensures.value c.if-size-greatest.false c.if-after-size.false;
+      bound = (c.if-size-greatest.false, c.in_ok-size.ensures.bound.1, c.if-after-size.false);
     }

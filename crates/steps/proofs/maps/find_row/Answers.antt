@@ -8,7 +8,7 @@ use Rattle.steps.proofs.maps.find_row.Goals as goal
 pub returns-then-from-index : goal.returns-then-from-index
 returns-then-from-index c = λ d e.
     let at = c.args.first + c.loop-i.i in
-    let row : c.record-at-row.result ≡ row_at d at = c.record-at-row.ensures ∙ ap (λ xs. entry xs at no_row) (sym e) in
+    let row : c.record_at-row.result ≡ row_at d at = c.record_at-row.ensures ∙ ap (λ xs. entry xs at no_row) (sym e) in
     let same : (row_at d at).index ≡ c.args.index = ap (λ (r : Row). r.index) (sym row) ∙ sym c.from.ensures ∙ c.if-from-index.true in
     let f : SFits w64 c.output.result = search rules in
     simp to_z-of_z (ap Ok (c.output.ensures ∙ ap output row) ∙ sym (c.loop-i.invariant d e ∙ row_found d at (c.args.number - c.loop-i.i) c.args.index (omega arith) same))
@@ -16,7 +16,7 @@ returns-then-from-index c = λ d e.
 pub loop-i-preserved : goal.loop-i-preserved
 loop-i-preserved c = λ d e.
     let at = c.args.first + c.loop-i.i in
-    let row : c.record-at-row.result ≡ row_at d at = c.record-at-row.ensures ∙ ap (λ xs. entry xs at no_row) (sym e) in
+    let row : c.record_at-row.result ≡ row_at d at = c.record_at-row.ensures ∙ ap (λ xs. entry xs at no_row) (sym e) in
     let a : at + 1 ≡ c.args.first + (c.loop-i.i + 1) = omega arith in
     let b : c.args.number - c.loop-i.i - 1 ≡ c.args.number - (c.loop-i.i + 1) = omega arith in
     c.loop-i.invariant d e

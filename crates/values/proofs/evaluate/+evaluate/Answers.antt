@@ -11,23 +11,23 @@ returns-then-left-k t c =
     ap Err c.unchecked.ensures ∙
     left_missing c.args.nodes.now c.args.size (named_by c.args.names.now) c.args.k _ _ _ c.in-Apply.ensures c.if-left-k.true
 
-pub returns-in-err-x : goal.returns-in-err-x
-returns-in-err-x t c =
+pub returns-in_err-x-in-Apply : goal.returns-in_err-x-in-Apply
+returns-in_err-x-in-Apply t c =
     let p = err_from_is_err_and c.from_residual.result c.from_residual.ensures.1 in
     rw (p.1, p.2)
-    (left_fails c.args.nodes.now c.args.size (named_by c.args.names.now) c.args.k _ _ _ c.in-Apply.ensures c.if-left-k.false c.in-err-x.ensures)
+    (left_fails c.args.nodes.now c.args.size (named_by c.args.names.now) c.args.k _ _ _ c.in-Apply.ensures c.if-left-k.false c.in_err-x-in-Apply.ensures)
 
 pub returns-then-right-k : goal.returns-then-right-k
 returns-then-right-k t c =
     ap Err c.unchecked-then-right-k.ensures ∙
-    right_missing c.args.nodes.now c.args.size (named_by c.args.names.now) c.args.k _ _ _ c.in-Apply.ensures c.if-left-k.false c.in-ok-x.ensures c.if-right-k.true
+    right_missing c.args.nodes.now c.args.size (named_by c.args.names.now) c.args.k _ _ _ c.in-Apply.ensures c.if-left-k.false c.in_ok-x-in-Apply.ensures c.if-right-k.true
 
-pub returns-in-err-y : goal.returns-in-err-y
+pub returns-in_err-y-in-Apply : goal.returns-in_err-y-in-Apply
 unfolding then
-returns-in-err-y t c =
-    let p = err_from_is_err_and c.from-residual-in-err-y.result c.from-residual-in-err-y.ensures.1 in
+returns-in_err-y-in-Apply t c =
+    let p = err_from_is_err_and c.from_residual-in_err-y-in-Apply.result c.from_residual-in_err-y-in-Apply.ensures.1 in
     rw (p.1, p.2)
-    (both_come c.args.nodes.now c.args.size (named_by c.args.names.now) c.args.k _ _ _ c.in-Apply.ensures c.if-left-k.false c.in-ok-x.ensures c.if-right-k.false c.in-err-y.ensures)
+    (both_come c.args.nodes.now c.args.size (named_by c.args.names.now) c.args.k _ _ _ c.in-Apply.ensures c.if-left-k.false c.in_ok-x-in-Apply.ensures c.if-right-k.false c.in_err-y-in-Apply.ensures)
 
 pub returns-in-Constant : goal.returns-in-Constant
 returns-in-Constant t c =
@@ -49,20 +49,20 @@ returns-in-OwnSize t c =
 pub returns-in-Ok : goal.returns-in-Ok
 unfolding then
 returns-in-Ok t c =
-    let fx : SFits w64 c.in-ok-x.x = search rules in
-    let fy : SFits w64 c.in-ok-y.y = search rules in
+    let fx : SFits w64 c.in_ok-x-in-Apply.x = search rules in
+    let fy : SFits w64 c.in_ok-y-in-Apply.y = search rules in
     let fv : SFits w64 c.in-Ok.v = search rules in
     let e = simp (to_z-of_z fx, to_z-of_z fy) at c.in-Ok.ensures in
-    let b = both_come c.args.nodes.now c.args.size (named_by c.args.names.now) c.args.k _ _ _ c.in-Apply.ensures c.if-left-k.false c.in-ok-x.ensures c.if-right-k.false c.in-ok-y.ensures in
+    let b = both_come c.args.nodes.now c.args.size (named_by c.args.names.now) c.args.k _ _ _ c.in-Apply.ensures c.if-left-k.false c.in_ok-x-in-Apply.ensures c.if-right-k.false c.in_ok-y-in-Apply.ensures in
     ap Ok (to_z-of_z fv) ∙ ap (of_node c.args.k) e ∙ b
 
 pub returns-in-Err : goal.returns-in-Err
 unfolding then
 returns-in-Err t c =
-    let fx : SFits w64 c.in-ok-x.x = search rules in
-    let fy : SFits w64 c.in-ok-y.y = search rules in
+    let fx : SFits w64 c.in_ok-x-in-Apply.x = search rules in
+    let fy : SFits w64 c.in_ok-y-in-Apply.y = search rules in
     let e = simp (to_z-of_z fx, to_z-of_z fy) at c.in-Err.ensures in
-    let b = both_come c.args.nodes.now c.args.size (named_by c.args.names.now) c.args.k _ _ _ c.in-Apply.ensures c.if-left-k.false c.in-ok-x.ensures c.if-right-k.false c.in-ok-y.ensures in
+    let b = both_come c.args.nodes.now c.args.size (named_by c.args.names.now) c.args.k _ _ _ c.in-Apply.ensures c.if-left-k.false c.in_ok-x-in-Apply.ensures c.if-right-k.false c.in_ok-y-in-Apply.ensures in
     ap (of_node c.args.k) e ∙ b
 
 pub returns-in-NoTerm : goal.returns-in-NoTerm
