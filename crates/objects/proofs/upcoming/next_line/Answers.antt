@@ -3,8 +3,8 @@ use Rattle.records.specs.Statements.{statement}
 use Rattle.objects.proofs.Codes.{code_none, code-past, known_of, line_passed, line_next}
 use Rattle.objects.proofs.upcoming.next_line.Goals as goal
 
-pub overflow-cast-line : goal.overflow-cast-line
-overflow-cast-line c = omega (arith, c.loop-left.invariant.1)
+pub overflow_cast-line : goal.overflow_cast-line
+overflow_cast-line c = omega (arith, c.loop-left.invariant.1)
 
 pub returns-then-line-lines : goal.returns-then-line-lines
 returns-then-line-lines c = c.loop-left.invariant.0 ∙ code-past c.args.lines.now c.loop-left.line c.loop-left.left (omega arith)
@@ -13,17 +13,17 @@ pub loop-left-preserved : goal.loop-left-preserved
 loop-left-preserved c = (
   c.loop-left.invariant.0
       ∙ line_passed c.args.lines.now c.loop-left.line c.loop-left.left (omega arith)
-      (c.in-Unknown.ensures ∙ ap statement c.record-at.ensures),
+      (c.in-Unknown.ensures ∙ ap statement c.record_at.ensures),
   omega arith,
 )
 
-pub returns-in-default : goal.returns-in-default
-returns-in-default c =
+pub returns-in_default : goal.returns-in_default
+returns-in_default c =
     record {
       same = c.loop-left.invariant.0
-          ∙ line_next c.args.lines.now c.loop-left.line c.loop-left.left (omega arith) _ (c.statement.ensures ∙ ap statement c.record-at.ensures);
-      is = sym (c.statement.ensures ∙ ap statement c.record-at.ensures);
-      known = known_of _ c.in-default.not-Unknown;
+          ∙ line_next c.args.lines.now c.loop-left.line c.loop-left.left (omega arith) _ (c.statement.ensures ∙ ap statement c.record_at.ensures);
+      is = sym (c.statement.ensures ∙ ap statement c.record_at.ensures);
+      known = known_of _ c.in_default.not-Unknown;
     }
 
 pub returns : goal.returns

@@ -4,17 +4,17 @@ use Rattle.objects.specs.declared.frame.Frame.TheVariants.{Lines}
 use Rattle.objects.proofs.Stacks.{stack_push, stack_room}
 use Rattle.objects.proofs.frames.Frames.push.Goals as goal
 
-pub offset-bounds-self-self : goal.offset-bounds-self-self
+pub offset_bounds-self-self : goal.offset_bounds-self-self
 unfolding frames
-offset-bounds-self-self c = let h = stack_room (Lines 0 0) c.args.self.now.room c.args.self.now.depth 20 c.requires in omega arith
+offset_bounds-self-self c = let h = stack_room (Lines 0 0) c.args.self.now.room c.args.self.now.depth 20 c.requires in omega arith
 
 pub bounds-self-self : goal.bounds-self-self
 unfolding frames
 bounds-self-self c = let h = stack_room (Lines 0 0) c.args.self.now.room c.args.self.now.depth 20 c.requires in omega arith
 
-pub overflow-add-self : goal.overflow-add-self
+pub overflow_add-self : goal.overflow_add-self
 unfolding frames
-overflow-add-self c = let h = stack_room (Lines 0 0) c.args.self.now.room c.args.self.now.depth 20 c.requires in omega arith
+overflow_add-self c = let h = stack_room (Lines 0 0) c.args.self.now.room c.args.self.now.depth 20 c.requires in omega arith
 
 pub returns : goal.returns
 unfolding frames

@@ -12,7 +12,7 @@ pub returns-in-Ok : goal.returns-in-Ok
 returns-in-Ok c = λ bits.
     let d = description c.args.tables.now in
     let fv : SFits w64 c.in-Ok.value = search rules in
-    quietly_at (same-inner (c.push.ensures ∙ ap (λ (f : Frame). f ∷ frames c.args.self.now.frames) c.lines-after.ensures) (simp to_z-of_z at c.write.ensures))
+    quietly_at (same-inner (c.push.ensures ∙ ap (λ (f : Frame). f ∷ frames c.args.self.now.frames) c.lines_after.ensures) (simp to_z-of_z at c.write.ensures))
     (record {
       same = assign_run d bits (object_of c.args.about) (inner_of c.args.self.now) c.args.p c.args.line c.args.after c.args.name c.args.node c.in-Ok.value c.in-Ok.ensures;
       fit = assign_room d bits (object_of c.args.about) (inner_of c.args.self.now) c.args.p c.args.line c.args.after c.args.name c.args.node c.requires.room;
@@ -23,6 +23,6 @@ pub returns-in-Err : goal.returns-in-Err
 returns-in-Err c = λ bits.
     let d = description c.args.tables.now in
     record {
-      same = λ obj. assign_fails d bits (object_of c.args.about) (inner_of c.args.self.now) c.args.p c.args.line c.args.after c.args.name c.args.node _ c.in-Err.ensures obj ∙ ap stop (sym c.fault-of.ensures);
+      same = λ obj. assign_fails d bits (object_of c.args.about) (inner_of c.args.self.now) c.args.p c.args.line c.args.after c.args.name c.args.node _ c.in-Err.ensures obj ∙ ap stop (sym c.fault_of.ensures);
       fit = c.requires.room.fit;
     }

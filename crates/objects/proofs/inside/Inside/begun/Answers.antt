@@ -21,14 +21,14 @@ returns-then-class-eq0 c =
 pub returns : goal.returns
 returns c =
     let d = description c.args.tables.now in
-    let own : c.record-at-own.result ≡ class_at d c.args.class =
-    c.record-at-own.ensures ∙ ap (λ (xs : List Class). entry xs c.args.class no_class) c.deref.ensures.value in
-    let base : c.record-at-base.result ≡ class_at d c.record-at-own.result.base =
-    c.record-at-base.ensures ∙ ap (λ (xs : List Class). entry xs c.record-at-own.result.base no_class) c.deref-2.ensures.value in
-    let fs : frames c.push-both.new.self
-    ≡ Lines c.record-at-base.result.first c.record-at-base.result.number ∷ Lines c.record-at-own.result.first c.record-at-own.result.number ∷ [] =
-    c.push-both.ensures ∙ (λ i. c.lines-of-2.ensures i ∷ c.lines-of.ensures i ∷ (c.idle-inside.ensures i).frames) in
-    let same : ◌≡◌ {A = Inner} (record { frames = frames c.push-both.new.self; extension = (inner_of c.idle-inside.result).extension; names = (inner_of c.idle-inside.result).names }) _ =
+    let own : c.record_at-own.result ≡ class_at d c.args.class =
+    c.record_at-own.ensures ∙ ap (λ (xs : List Class). entry xs c.args.class no_class) c.deref.ensures.value in
+    let base : c.record_at-base.result ≡ class_at d c.record_at-own.result.base =
+    c.record_at-base.ensures ∙ ap (λ (xs : List Class). entry xs c.record_at-own.result.base no_class) c.deref-2.ensures.value in
+    let fs : frames c.push_both.new.self
+    ≡ Lines c.record_at-base.result.first c.record_at-base.result.number ∷ Lines c.record_at-own.result.first c.record_at-own.result.number ∷ [] =
+    c.push_both.ensures ∙ (λ i. c.lines_of-2.ensures i ∷ c.lines_of.ensures i ∷ (c.idle-inside.ensures i).frames) in
+    let same : ◌≡◌ {A = Inner} (record { frames = frames c.push_both.new.self; extension = (inner_of c.idle-inside.result).extension; names = (inner_of c.idle-inside.result).names }) _ =
     λ i. record { frames = fs i; extension = (c.idle-inside.ensures i).extension; names = (c.idle-inside.ensures i).names } in
     subst (λ (x : Inner). Begun d c.args.class x) (sym same)
-    (begun_some d c.args.class c.record-at-own.result c.record-at-base.result (omega arith) own base c.requires)
+    (begun_some d c.args.class c.record_at-own.result c.record_at-base.result (omega arith) own base c.requires)

@@ -37,11 +37,11 @@ returns-then-extension-about g c =
     let bits = g.S.Source.bits c.args.source.now in
     let v = c.deref-table.ensures.value in
     let some : c.args.self.now.extension < length d.extensions = subst (λ (es : List Extension). c.args.self.now.extension < length es) v c.if-i-count.false in
-    let is : c.record-at-extension.result ≡ extension_at d (c.args.self.now.extension + 1) = c.record-at-extension.ensures ∙ ap (λ (es : List Extension). entry es (c.args.self.now.extension + 1) no_extension) v in
-    let other : eqb c.record-at-extension.result.class c.args.about.class ≡ false = grind (arith, nat_tests) in
+    let is : c.record_at-extension.result ≡ extension_at d (c.args.self.now.extension + 1) = c.record_at-extension.ensures ∙ ap (λ (es : List Extension). entry es (c.args.self.now.extension + 1) no_extension) v in
+    let other : eqb c.record_at-extension.result.class c.args.about.class ≡ false = grind (arith, nat_tests) in
     quietly_at (same-inner c.requires.none refl)
     (record {
-      same = other_extension d bits (object_of c.args.about) (inner_of c.args.self.now) c.args.p c.requires.none c.record-at-extension.result is some other;
+      same = other_extension d bits (object_of c.args.about) (inner_of c.args.self.now) c.args.p c.requires.none c.record_at-extension.result is some other;
       fit = none_fit d [] refl;
       near = c.requires.near;
     })
@@ -52,12 +52,12 @@ returns-then-q-about g c =
     let bits = g.S.Source.bits c.args.source.now in
     let v = c.deref-table.ensures.value in
     let some : c.args.self.now.extension < length d.extensions = subst (λ (es : List Extension). c.args.self.now.extension < length es) v c.if-i-count.false in
-    let is : c.record-at-extension.result ≡ extension_at d (c.args.self.now.extension + 1) = c.record-at-extension.ensures ∙ ap (λ (es : List Extension). entry es (c.args.self.now.extension + 1) no_extension) v in
-    let own : eqb c.record-at-extension.result.class c.args.about.class ≡ true = grind (arith, nat_tests) in
+    let is : c.record_at-extension.result ≡ extension_at d (c.args.self.now.extension + 1) = c.record_at-extension.ensures ∙ ap (λ (es : List Extension). entry es (c.args.self.now.extension + 1) no_extension) v in
+    let own : eqb c.record_at-extension.result.class c.args.about.class ≡ true = grind (arith, nat_tests) in
     let last : eqb c.in-Ok.q c.args.about.window.end ≡ true = grind (arith, nat_tests) in
     quietly_at (same-inner c.requires.none refl)
     (record {
-      same = extensions_end d bits (object_of c.args.about) (inner_of c.args.self.now) c.args.p c.requires.none c.record-at-extension.result is some own c.in-Ok.q c.in-Ok.ensures.value last (length c.deref-table.result.now) (subst (λ (es : List Extension). length d.extensions ≤ length es) (sym v) (omega arith));
+      same = extensions_end d bits (object_of c.args.about) (inner_of c.args.self.now) c.args.p c.requires.none c.record_at-extension.result is some own c.in-Ok.q c.in-Ok.ensures.value last (length c.deref-table.result.now) (subst (λ (es : List Extension). length d.extensions ≤ length es) (sym v) (omega arith));
       fit = none_fit d [] refl;
       near = omega (arith, c.in-Ok.ensures.bound.1, c.requires.short);
     })
@@ -68,13 +68,13 @@ returns-else-q-about g c =
     let bits = g.S.Source.bits c.args.source.now in
     let v = c.deref-table.ensures.value in
     let some : c.args.self.now.extension < length d.extensions = subst (λ (es : List Extension). c.args.self.now.extension < length es) v c.if-i-count.false in
-    let is : c.record-at-extension.result ≡ extension_at d (c.args.self.now.extension + 1) = c.record-at-extension.ensures ∙ ap (λ (es : List Extension). entry es (c.args.self.now.extension + 1) no_extension) v in
-    let own : eqb c.record-at-extension.result.class c.args.about.class ≡ true = grind (arith, nat_tests) in
+    let is : c.record_at-extension.result ≡ extension_at d (c.args.self.now.extension + 1) = c.record_at-extension.ensures ∙ ap (λ (es : List Extension). entry es (c.args.self.now.extension + 1) no_extension) v in
+    let own : eqb c.record_at-extension.result.class c.args.about.class ≡ true = grind (arith, nat_tests) in
     let more : eqb c.in-Ok.q c.args.about.window.end ≡ false = grind (arith, nat_tests) in
-    quietly_at (same-inner (c.push.ensures ∙ ap (◌∷◌ (Lines c.record-at-extension.result.first c.record-at-extension.result.number)) c.requires.none) refl)
+    quietly_at (same-inner (c.push.ensures ∙ ap (◌∷◌ (Lines c.record_at-extension.result.first c.record_at-extension.result.number)) c.requires.none) refl)
     (record {
-      same = extension_begins d bits (object_of c.args.about) (inner_of c.args.self.now) c.args.p c.requires.none c.record-at-extension.result is some own c.in-Ok.q c.in-Ok.ensures.value more;
-      fit = extension_room d bits (object_of c.args.about) (inner_of c.args.self.now) c.args.p c.requires.none c.record-at-extension.result is some c.requires.readable;
+      same = extension_begins d bits (object_of c.args.about) (inner_of c.args.self.now) c.args.p c.requires.none c.record_at-extension.result is some own c.in-Ok.q c.in-Ok.ensures.value more;
+      fit = extension_room d bits (object_of c.args.about) (inner_of c.args.self.now) c.args.p c.requires.none c.record_at-extension.result is some c.requires.readable;
       near = omega (arith, c.in-Ok.ensures.bound.1, c.requires.short);
     })
 
@@ -84,9 +84,9 @@ returns-in-Err g c =
     let bits = g.S.Source.bits c.args.source.now in
     let v = c.deref-table.ensures.value in
     let some : c.args.self.now.extension < length d.extensions = subst (λ (es : List Extension). c.args.self.now.extension < length es) v c.if-i-count.false in
-    let is : c.record-at-extension.result ≡ extension_at d (c.args.self.now.extension + 1) = c.record-at-extension.ensures ∙ ap (λ (es : List Extension). entry es (c.args.self.now.extension + 1) no_extension) v in
-    let own : eqb c.record-at-extension.result.class c.args.about.class ≡ true = grind (arith, nat_tests) in
+    let is : c.record_at-extension.result ≡ extension_at d (c.args.self.now.extension + 1) = c.record_at-extension.ensures ∙ ap (λ (es : List Extension). entry es (c.args.self.now.extension + 1) no_extension) v in
+    let own : eqb c.record_at-extension.result.class c.args.about.class ≡ true = grind (arith, nat_tests) in
     record {
-      same = λ obj. extension_fails d bits (object_of c.args.about) (inner_of c.args.self.now) c.args.p c.requires.none c.record-at-extension.result is some own _ c.in-Err.ensures.value obj ∙ ap stop (sym c.fault-of.ensures);
+      same = λ obj. extension_fails d bits (object_of c.args.about) (inner_of c.args.self.now) c.args.p c.requires.none c.record_at-extension.result is some own _ c.in-Err.ensures.value obj ∙ ap stop (sym c.fault_of.ensures);
       fit = none_fit d _ c.requires.none;
     }

@@ -20,11 +20,11 @@ pub returns-in-Read : goal.returns-in-Read
 unfolding coded
 returns-in-Read g c = subst (λ (s : Statement). CodeMoved (description c.args.tables.now) (g.S.Source.bits c.args.source.now) (object_of c.args.about) (coded s c.args.line c.args.after (code (description c.args.tables.now).lines)) c.args.self.now c.args.p c.read.result c.read.new.self) (sym c.in-Read.is) (c.read.ensures (g.S.Source.bits c.args.source.now))
 
-pub unread-line-requires : goal.unread-line-requires
-unread-line-requires g c =
+pub unread_line-requires : goal.unread_line-requires
+unread_line-requires g c =
     record {
       room = c.requires.room;
-      known = unread_of c.args.statement c.requires.known c.in-default.not-Read;
+      known = unread_of c.args.statement c.requires.known c.in_default.not-Read;
       named = c.requires.named;
       readable = c.requires.readable;
       near = c.requires.near;

@@ -17,8 +17,8 @@ use Rattle.objects.proofs.NextLines.{lines_run, lines_room, next_named}
 use Rattle.objects.proofs.Sames.{fit_under}
 use Rattle.objects.proofs.inside.Inside.line.Goals as goal
 
-pub known-line-requires : goal.known-line-requires
-known-line-requires g c =
+pub known_line-requires : goal.known_line-requires
+known_line-requires g c =
     let d = description c.args.tables.now in
     let n : IsNext d.lines c.args.at c.args.count c.in-Next.line c.in-Next.after c.in-Next.statement =
     subst (λ (ls : List Line). IsNext ls c.args.at c.args.count c.in-Next.line c.in-Next.after c.in-Next.statement) c.deref.ensures.value c.in-Next.ensures in
@@ -54,5 +54,5 @@ returns-in-Next g c =
     let i = inner_of c.args.self.now in
     let n : IsNext d.lines c.args.at c.args.count c.in-Next.line c.in-Next.after c.in-Next.statement =
     subst (λ (ls : List Line). IsNext ls c.args.at c.args.count c.in-Next.line c.in-Next.after c.in-Next.statement) c.deref.ensures.value c.in-Next.ensures in
-    moved_from d bits o c.args.p c.known-line.result (inner_of c.known-line.new.self)
-    (lines_run d c.args.at c.args.count _ n.same bits o i c.args.p) c.known-line.ensures
+    moved_from d bits o c.args.p c.known_line.result (inner_of c.known_line.new.self)
+    (lines_run d c.args.at c.args.count _ n.same bits o i c.args.p) c.known_line.ensures

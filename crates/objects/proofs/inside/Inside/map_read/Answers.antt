@@ -19,10 +19,10 @@ returns-in-Ok g c =
     let i = inner_of c.args.self.now in
     let o = object_of c.args.about in
     let fv : SFits w64 c.in-Ok.got.value = search rules in
-    gives_at (same-inner (c.push.ensures ∙ ap (λ (f : Frame). f ∷ frames c.args.self.now.frames) c.lines-after.ensures) (simp to_z-of_z at c.write.ensures))
+    gives_at (same-inner (c.push.ensures ∙ ap (λ (f : Frame). f ∷ frames c.args.self.now.frames) c.lines_after.ensures) (simp to_z-of_z at c.write.ensures))
     (record {
       same = λ obj. map_run d bits o i c.args.p c.args.line c.args.after c.args.map c.args.name c.in-Ok.got c.in-Ok.ensures.value obj
-          ∙ ap (λ (x : Item). out x (inner_run d bits o (onto (Lines (c.args.line + 1) c.args.after) (with_names (write c.args.name c.in-Ok.got.value i.names) i)) c.in-Ok.got.after obj)) (sym c.value-item.ensures);
+          ∙ ap (λ (x : Item). out x (inner_run d bits o (onto (Lines (c.args.line + 1) c.args.after) (with_names (write c.args.name c.in-Ok.got.value i.names) i)) c.in-Ok.got.after obj)) (sym c.value_item.ensures);
       fit = map_room d bits o i c.args.p c.args.line c.args.after c.args.map c.args.name c.requires.room;
       near = omega (arith, c.in-Ok.ensures.bound, c.requires.short);
     })
@@ -32,6 +32,6 @@ returns-in-Err g c =
     let d = description c.args.tables.now in
     let bits = g.S.Source.bits c.args.source.now in
     record {
-      same = λ obj. map_fails d bits (object_of c.args.about) (inner_of c.args.self.now) c.args.p c.args.line c.args.after c.args.map c.args.name _ c.in-Err.ensures.value obj ∙ ap stop (sym c.fault-of.ensures);
+      same = λ obj. map_fails d bits (object_of c.args.about) (inner_of c.args.self.now) c.args.p c.args.line c.args.after c.args.map c.args.name _ c.in-Err.ensures.value obj ∙ ap stop (sym c.fault_of.ensures);
       fit = c.requires.room.fit;
     }

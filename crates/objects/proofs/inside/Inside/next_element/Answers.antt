@@ -37,7 +37,7 @@ returns-in-Ok g c =
     gives_at (same-inner c.push.ensures (simp to_z-of_z at c.write.ensures))
     (record {
       same = λ obj. element_run (description c.args.tables.now) bits (object_of c.args.about) (inner_of c.args.self.now) c.args.p c.args.line c.args.fields c.args.index c.args.total (omega arith) c.in-Ok.got c.in-Ok.ensures.value obj
-          ∙ ap (λ (x : Item). out x (inner_run d bits o (onto (Elements c.args.line c.args.fields (c.args.index + 1) c.args.total) (with_names (write c.args.fields.name c.in-Ok.got.value i.names) i)) c.in-Ok.got.after obj)) (sym c.value-item.ensures);
+          ∙ ap (λ (x : Item). out x (inner_run d bits o (onto (Elements c.args.line c.args.fields (c.args.index + 1) c.args.total) (with_names (write c.args.fields.name c.in-Ok.got.value i.names) i)) c.in-Ok.got.after obj)) (sym c.value_item.ensures);
       fit = element_room (description c.args.tables.now) bits (object_of c.args.about) (inner_of c.args.self.now) c.args.p c.args.line c.args.fields c.args.index c.args.total c.requires.fit;
       near = omega (arith, c.in-Ok.ensures.bound, c.requires.short);
     })
@@ -46,6 +46,6 @@ pub returns-in-Err : goal.returns-in-Err
 returns-in-Err g c =
     let bits = g.S.Source.bits c.args.source.now in
     record {
-      same = λ obj. element_fails (description c.args.tables.now) bits (object_of c.args.about) (inner_of c.args.self.now) c.args.p c.args.line c.args.fields c.args.index c.args.total (omega arith) _ c.in-Err.ensures.value obj ∙ ap stop (sym c.fault-of.ensures);
+      same = λ obj. element_fails (description c.args.tables.now) bits (object_of c.args.about) (inner_of c.args.self.now) c.args.p c.args.line c.args.fields c.args.index c.args.total (omega arith) _ c.in-Err.ensures.value obj ∙ ap stop (sym c.fault_of.ensures);
       fit = fit_under (description c.args.tables.now) _ _ c.requires.fit;
     }

@@ -9,16 +9,16 @@ use Rattle.objects.proofs.FrameRuns.{to_end_stops, to_end_ends, to_end_begins, t
 use Rattle.objects.proofs.Sames.{same-inner, begins_at, room_under, fit_under}
 use Rattle.rules.specs.Steps.{next_multiple}
 use Rattle.objects.proofs.inside.Inside.next_to_end.Goals as goal
-use Rattle.objects.proofs.inside.Inside.next_to_end.Goals.{else-index-fields-via-then-index-fields+else-not-at-end, else-index-fields-via-else-index-fields}
+use Rattle.objects.proofs.inside.Inside.next_to_end.Goals.{else-index-fields-via-then-index-fields+else-not-at_end, else-index-fields-via-else-index-fields}
 
 pub push-requires : goal.push-requires
 push-requires c = room_under (description c.args.tables.now) (Uncounted c.args.line c.args.fields c.args.index) refl c.requires.fit
 
-pub returns-then-not-at-end : goal.returns-then-not-at-end
-returns-then-not-at-end c = λ bits.
+pub returns-then-not-at_end : goal.returns-then-not-at_end
+returns-then-not-at_end c = λ bits.
     begins_at (same-inner c.push.ensures refl)
     (record {
-      same = to_end_begins (description c.args.tables.now) bits (object_of c.args.about) (inner_of c.args.self.now) c.args.p c.args.line c.args.fields c.args.index (omega arith) (sym c.at-end.ensures ∙ c.if-not-at-end.true);
+      same = to_end_begins (description c.args.tables.now) bits (object_of c.args.about) (inner_of c.args.self.now) c.args.p c.args.line c.args.fields c.args.index (omega arith) (sym c.at_end.ensures ∙ c.if-not-at_end.true);
       fit = to_end_room (description c.args.tables.now) bits (object_of c.args.about) (inner_of c.args.self.now) c.args.p c.args.line c.args.fields c.args.index c.requires.fit;
       writes = to_end_name (description c.args.tables.now) bits (object_of c.args.about) (inner_of c.args.self.now) c.args.p c.args.line c.args.fields c.args.index c.requires.fit;
     })
@@ -27,11 +27,11 @@ pub returns-then-index-fields-2 : goal.returns-then-index-fields-2
 returns-then-index-fields-2 c = λ bits.
     let ended : (c.args.fields.most ≤ c.args.index) ⊎ (leb c.args.about.window.end (next_multiple 8 c.args.p) ≡ true) =
     elim c.else-index-fields.branch [
-      | else-index-fields-via-then-index-fields+else-not-at-end w ↦ inr (sym w.at_end.ensures ∙ w.if-not-at-end.false)
+      | else-index-fields-via-then-index-fields+else-not-at_end w ↦ inr (sym w.at_end.ensures ∙ w.if-not-at_end.false)
       | else-index-fields-via-else-index-fields w ↦ inl w.if-index-fields.false
     ] in
     record {
-      same = λ obj. to_end_stops (description c.args.tables.now) bits (object_of c.args.about) (inner_of c.args.self.now) c.args.p c.args.line c.args.fields c.args.index ended c.if-index-fields-2.true obj ∙ ap stop (sym c.fault-of.ensures);
+      same = λ obj. to_end_stops (description c.args.tables.now) bits (object_of c.args.about) (inner_of c.args.self.now) c.args.p c.args.line c.args.fields c.args.index ended c.if-index-fields-2.true obj ∙ ap stop (sym c.fault_of.ensures);
       fit = fit_under (description c.args.tables.now) _ _ c.requires.fit;
     }
 
@@ -39,7 +39,7 @@ pub returns : goal.returns
 returns c = λ bits.
     let ended : (c.args.fields.most ≤ c.args.index) ⊎ (leb c.args.about.window.end (next_multiple 8 c.args.p) ≡ true) =
     elim c.else-index-fields.branch [
-      | else-index-fields-via-then-index-fields+else-not-at-end w ↦ inr (sym w.at_end.ensures ∙ w.if-not-at-end.false)
+      | else-index-fields-via-then-index-fields+else-not-at_end w ↦ inr (sym w.at_end.ensures ∙ w.if-not-at_end.false)
       | else-index-fields-via-else-index-fields w ↦ inl w.if-index-fields.false
     ] in
     record {

@@ -15,17 +15,17 @@ pub assign-requires : goal.assign-requires
 unfolding coded
 assign-requires g c = record { room = subst (λ (s : Statement). Room (description c.args.tables.now) (coded s c.args.line c.args.after (code (description c.args.tables.now).lines)) (frames c.args.self.now.frames)) c.in-Assign.is c.requires.room; named = subst (λ (s : Statement). written s ≤ 128) c.in-Assign.is c.requires.named; near = c.requires.near }
 
-pub map-read-requires : goal.map-read-requires
+pub map_read-requires : goal.map_read-requires
 unfolding coded
-map-read-requires g c = record { room = subst (λ (s : Statement). Room (description c.args.tables.now) (coded s c.args.line c.args.after (code (description c.args.tables.now).lines)) (frames c.args.self.now.frames)) c.in-MapRead.is c.requires.room; named = subst (λ (s : Statement). written s ≤ 128) c.in-MapRead.is c.requires.named; width = c.requires.readable.maps c.in-MapRead.map; within = c.requires.within; short = c.requires.short }
+map_read-requires g c = record { room = subst (λ (s : Statement). Room (description c.args.tables.now) (coded s c.args.line c.args.after (code (description c.args.tables.now).lines)) (frames c.args.self.now.frames)) c.in-MapRead.is c.requires.room; named = subst (λ (s : Statement). written s ≤ 128) c.in-MapRead.is c.requires.named; width = c.requires.readable.maps c.in-MapRead.map; within = c.requires.within; short = c.requires.short }
 
 pub branch-self-requires : goal.branch-self-requires
 unfolding coded
 branch-self-requires g c = record { room = subst (λ (s : Statement). Room (description c.args.tables.now) (coded s c.args.line c.args.after (code (description c.args.tables.now).lines)) (frames c.args.self.now.frames)) c.in-If.is c.requires.room; near = c.requires.near }
 
-pub begin-rounds-requires : goal.begin-rounds-requires
+pub begin_rounds-requires : goal.begin_rounds-requires
 unfolding coded
-begin-rounds-requires g c = record { room = subst (λ (s : Statement). Room (description c.args.tables.now) (coded s c.args.line c.args.after (code (description c.args.tables.now).lines)) (frames c.args.self.now.frames)) c.in-While.is c.requires.room; near = c.requires.near }
+begin_rounds-requires g c = record { room = subst (λ (s : Statement). Room (description c.args.tables.now) (coded s c.args.line c.args.after (code (description c.args.tables.now).lines)) (frames c.args.self.now.frames)) c.in-While.is c.requires.room; near = c.requires.near }
 
 pub returns-in-Assign : goal.returns-in-Assign
 unfolding coded
@@ -33,7 +33,7 @@ returns-in-Assign g c = subst (λ (s : Statement). CodeMoved (description c.args
 
 pub returns-in-MapRead : goal.returns-in-MapRead
 unfolding coded
-returns-in-MapRead g c = subst (λ (s : Statement). CodeMoved (description c.args.tables.now) (g.S.Source.bits c.args.source.now) (object_of c.args.about) (coded s c.args.line c.args.after (code (description c.args.tables.now).lines)) c.args.self.now c.args.p c.map-read.result c.map-read.new.self) (sym c.in-MapRead.is) c.map-read.ensures
+returns-in-MapRead g c = subst (λ (s : Statement). CodeMoved (description c.args.tables.now) (g.S.Source.bits c.args.source.now) (object_of c.args.about) (coded s c.args.line c.args.after (code (description c.args.tables.now).lines)) c.args.self.now c.args.p c.map_read.result c.map_read.new.self) (sym c.in-MapRead.is) c.map_read.ensures
 
 pub returns-in-If : goal.returns-in-If
 unfolding coded
@@ -41,4 +41,4 @@ returns-in-If g c = subst (λ (s : Statement). CodeMoved (description c.args.tab
 
 pub returns-in-While : goal.returns-in-While
 unfolding coded
-returns-in-While g c = subst (λ (s : Statement). CodeMoved (description c.args.tables.now) (g.S.Source.bits c.args.source.now) (object_of c.args.about) (coded s c.args.line c.args.after (code (description c.args.tables.now).lines)) c.args.self.now c.args.p c.begin-rounds.result c.begin-rounds.new.self) (sym c.in-While.is) (c.begin-rounds.ensures (g.S.Source.bits c.args.source.now))
+returns-in-While g c = subst (λ (s : Statement). CodeMoved (description c.args.tables.now) (g.S.Source.bits c.args.source.now) (object_of c.args.about) (coded s c.args.line c.args.after (code (description c.args.tables.now).lines)) c.args.self.now c.args.p c.begin_rounds.result c.begin_rounds.new.self) (sym c.in-While.is) (c.begin_rounds.ensures (g.S.Source.bits c.args.source.now))
