@@ -6,6 +6,7 @@ use Rattle.rules.specs.declared.items.Kind.{Kind}
 use Rattle.rules.specs.declared.items.Kind.TheVariants.{Value, Open, Close}
 use Rattle.rules.specs.declared.faults.ReadingFault.{ReadingFault}
 use Rattle.rules.specs.Trace.{Run, out, pass, stop, done}
+use Rattle.bits.specs.declared.source.Source.{Ghosts}
 use Rattle.reading.specs.declared.state.Reading.{Reading}
 use Rattle.reading.specs.Walks.{walk_ahead}
 
@@ -14,7 +15,7 @@ abbrev pub held : Option ReadingFault → Run (Unit {0}) → Run (Unit {0})
 held None t = t
 held (Some f) t = stop f
 
-abbrev pub ahead : {S : Type 0} → (S → List Bool) → Reading S → Run (Unit {0})
+abbrev pub ahead : {S : Type 0} {g : Ghosts S} → (S → List Bool) → Reading S g → Run (Unit {0})
 ahead bits r = held r.fault (walk_ahead (description r.tables.now) (bits r.source) r.walk)
 
 -- by what lay ahead: silent steps are passed over
@@ -53,10 +54,10 @@ abbrev pub item_end : Item → (after : ℕ) → ℕ
 item_end i after = end_by i.kind i.place i.length after
 
 -- where the bits of the last item end, and where the next bits are taken
-abbrev pub position_of : {S : Type 0} → Reading S → ℕ
+abbrev pub position_of : {S : Type 0} {g : Ghosts S} → Reading S g → ℕ
 position_of r = r.position
 
-abbrev pub place_of : {S : Type 0} → Reading S → ℕ
+abbrev pub place_of : {S : Type 0} {g : Ghosts S} → Reading S g → ℕ
 place_of r = r.walk.place
 
 -- an item moves the position to where its bits end, from where the reading then stands; else it stays

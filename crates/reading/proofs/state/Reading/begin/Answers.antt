@@ -2,8 +2,8 @@ use Rattle.std.proofs.Common.{refl}
 use Rattle.table.specs.Description.{description}
 use Rattle.reading.proofs.state.Reading.begin.Goals as goal
 
-pub invariant-of-result : goal.invariant-of-result
-invariant-of-result g c = (∣ c.requires ∣₁, (∣ c.new.ensures.1 (description c.args.tables.now) ∣₁, tt))
+pub invariant_of-result : goal.invariant_of-result
+invariant_of-result g c = record { readable = ∣ c.requires ∣₁; sound = ∣ c.new.ensures.1 (description c.args.tables.now) ∣₁ }
 
 pub returns : goal.returns
 returns g c =

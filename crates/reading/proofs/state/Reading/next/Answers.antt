@@ -16,17 +16,17 @@ step-requires g c =
       readable = readable_out (description c.loop-item.self.tables.now) c.loop-item.self.readable;
     }
 
-pub invariant-of-self : goal.invariant-of-self
-invariant-of-self g c = (c.loop-item.self.readable, (∣ c.in-Quiet.ensures.sound ∣₁, tt))
+pub invariant_of-self : goal.invariant_of-self
+invariant_of-self g c = record { readable = c.loop-item.self.readable; sound = ∣ c.in-Quiet.ensures.sound ∣₁ }
 
-pub invariant-of-self-in-Give : goal.invariant-of-self-in-Give
-invariant-of-self-in-Give g c = (c.loop-item.self.readable, (∣ c.in-Give.ensures.sound ∣₁, tt))
+pub invariant_of-self-in-Give : goal.invariant_of-self-in-Give
+invariant_of-self-in-Give g c = record { readable = c.loop-item.self.readable; sound = ∣ c.in-Give.ensures.sound ∣₁ }
 
-pub invariant-of-self-in-End : goal.invariant-of-self-in-End
-invariant-of-self-in-End g c = (c.loop-item.self.readable, (∣ c.in-End.ensures.sound ∣₁, tt))
+pub invariant_of-self-in-End : goal.invariant_of-self-in-End
+invariant_of-self-in-End g c = record { readable = c.loop-item.self.readable; sound = ∣ c.in-End.ensures.sound ∣₁ }
 
-pub invariant-of-self-in-Refuse : goal.invariant-of-self-in-Refuse
-invariant-of-self-in-Refuse g c = (c.loop-item.self.readable, (∣ c.in-Refuse.ensures.sound ∣₁, tt))
+pub invariant_of-self-in-Refuse : goal.invariant_of-self-in-Refuse
+invariant_of-self-in-Refuse g c = record { readable = c.loop-item.self.readable; sound = ∣ c.in-Refuse.ensures.sound ∣₁ }
 
 -- both clauses, from the one by what was handed out
 both : (a : Run (Unit {0})) (r : Result (Option Item) ReadingFault) (b : Run (Unit {0})) (p q n : ℕ) → Positioned p r q n → Told a r b
@@ -41,7 +41,7 @@ returns-in-Give g c =
     let before = walk_ahead d bits s.walk in
     let after = walk_ahead d bits c.step.new.self in
     let none = c.loop-item.invariant.0 in
-    both (ahead g.S.Source.bits c.args.self.now) (Ok (Some c.in-Give.item)) (held s.fault after) c.args.self.now.position c.item-end-self.result c.step.new.self.place c.item-end-self.ensures
+    both (ahead g.S.Source.bits c.args.self.now) (Ok (Some c.in-Give.item)) (held s.fault after) c.args.self.now.position c.item_end-self.result c.step.new.self.place c.item_end-self.ensures
     (sym c.loop-item.invariant.1 ∙ skipped_out _ _ c.in-Give.item (held_none s.fault before none ∙ c.in-Give.ensures.same)
     ∙ ap (out c.in-Give.item) (sym (held_none s.fault after none)))
 

@@ -23,16 +23,16 @@ returns-then-i-eq0 c = λ d bits from l.
     let a = (get_or xs i no_object).about in
     let b = inner_of (get_or xs i no_object).inside in
     let p = c.args.self.now.place in
-    let q = c.place-after-place.result in
-    let at : q ≡ cond (eqb a.greatest 0) p (min a.window.end (length bits)) = c.place-after-place.ensures ∙ ap (λ (x : About). cond (eqb x.greatest 0) p x.window.end) l.is in
+    let q = c.place_after-place.result in
+    let at : q ≡ cond (eqb a.greatest 0) p (min a.window.end (length bits)) = c.place_after-place.ensures ∙ ap (λ (x : About). cond (eqb x.greatest 0) p x.window.end) l.is in
     let near : q ≤ 2147483647 = near_after (eqb a.greatest 0) p a.window.end (length bits) q at l.near l.short in
-    let item : close_item a.class a.line a.index q ≡ c.close-item.result = sym (c.close-item.ensures ∙ ap (λ (x : About). close_item x.class x.line x.index q) l.is) in
+    let item : close_item a.class a.line a.index q ≡ c.close_item.result = sym (c.close_item.ensures ∙ ap (λ (x : About). close_item x.class x.line x.index q) l.is) in
     let objects = popped_objects (record { objects = xs; depth = i; place = q; started = c.args.self.now.started }) (omega arith) in
     record {
       same =
           l.same ∙ left_at d bits a (around xs i) b p q at
           ∙ ap (λ (x : Item). out x (rest_from d bits (around xs i) (received a.carried a.receiving (state q b) (around xs i)))) item
-          ∙ ap (out c.close-item.result) (left_last d bits xs i a.carried a.receiving q b c.if-i-eq0.true
+          ∙ ap (out c.close_item.result) (left_last d bits xs i a.carried a.receiving q b c.if-i-eq0.true
           ∙ sym (ahead_of d bits _ (around xs i) q c.requires.started objects refl));
       sound = sound_from d _ (around xs i) objects l.fits near;
     }
@@ -44,10 +44,10 @@ returns c = λ d bits from l.
     let a = (get_or xs i no_object).about in
     let b = inner_of (get_or xs i no_object).inside in
     let p = c.args.self.now.place in
-    let q = c.place-after-place.result in
-    let at : q ≡ cond (eqb a.greatest 0) p (min a.window.end (length bits)) = c.place-after-place.ensures ∙ ap (λ (x : About). cond (eqb x.greatest 0) p x.window.end) l.is in
+    let q = c.place_after-place.result in
+    let at : q ≡ cond (eqb a.greatest 0) p (min a.window.end (length bits)) = c.place_after-place.ensures ∙ ap (λ (x : About). cond (eqb x.greatest 0) p x.window.end) l.is in
     let near : q ≤ 2147483647 = near_after (eqb a.greatest 0) p a.window.end (length bits) q at l.near l.short in
-    let item : close_item a.class a.line a.index q ≡ c.close-item-2.result = sym (c.close-item-2.ensures ∙ ap (λ (x : About). close_item x.class x.line x.index q) l.is) in
+    let item : close_item a.class a.line a.index q ≡ c.close_item-2.result = sym (c.close_item-2.ensures ∙ ap (λ (x : About). close_item x.class x.line x.index q) l.is) in
     let j = c.receive.new.self in
     let fv : SFits w64 c.name-value.result = search rules in
     let o = get_or xs (i - 1) no_object in
@@ -61,7 +61,7 @@ returns c = λ d bits from l.
       same =
           l.same ∙ left_at d bits a (around xs i) b p q at
           ∙ ap (λ (y : Item). out y (rest_from d bits (around xs i) (received a.carried a.receiving (state q b) (around xs i)))) item
-          ∙ ap (out c.close-item-2.result) (left_others d bits xs i a.carried a.receiving q b (omega arith) j e
+          ∙ ap (out c.close_item-2.result) (left_others d bits xs i a.carried a.receiving q b (omega arith) j e
           ∙ sym (ahead_of d bits _ (x ∷ around xs (i - 1)) q c.requires.started objects refl));
       sound = sound_from d _ (x ∷ around xs (i - 1)) objects (received_fit d xs i (omega arith) j _ e l.fits) near;
     }

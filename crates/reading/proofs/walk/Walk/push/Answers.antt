@@ -3,17 +3,17 @@ use Rattle.objects.proofs.Stacks.{stack_push, stack_room}
 use Rattle.reading.specs.Walks.{objects_of, no_object}
 use Rattle.reading.proofs.walk.Walk.push.Goals as goal
 
-pub offset-bounds-self-self : goal.offset-bounds-self-self
+pub offset_bounds-self-self : goal.offset_bounds-self-self
 unfolding objects_of
-offset-bounds-self-self c = let h = stack_room no_object c.args.self.now.objects c.args.self.now.depth 16 c.requires in omega arith
+offset_bounds-self-self c = let h = stack_room no_object c.args.self.now.objects c.args.self.now.depth 16 c.requires in omega arith
 
 pub bounds-self-self : goal.bounds-self-self
 unfolding objects_of
 bounds-self-self c = let h = stack_room no_object c.args.self.now.objects c.args.self.now.depth 16 c.requires in omega arith
 
-pub overflow-add-self : goal.overflow-add-self
+pub overflow_add-self : goal.overflow_add-self
 unfolding objects_of
-overflow-add-self c = let h = stack_room no_object c.args.self.now.objects c.args.self.now.depth 16 c.requires in omega arith
+overflow_add-self c = let h = stack_room no_object c.args.self.now.objects c.args.self.now.depth 16 c.requires in omega arith
 
 pub returns : goal.returns
 unfolding objects_of
