@@ -1,12 +1,12 @@
 -- What `get` answers over lists, and what its answers tell.
-use Rattle.std.proofs.Common.{◌≡◌, ℕ, ◌+◌, ◌-◌, ◌*◌, ◌/◌, ◌%◌, ◌^◌, ◌<◌, ◌≤◌, min, Bool, ltb, List, ◌++◌, length, take, drop, Ok, Err, sym, refl, ap, ◌∙◌, add-mul, zero-add, arith}
+use Rattle.std.proofs.Common.{◌≡◌, ℕ, ◌+◌, ◌-◌, ◌*◌, ◌/◌, ◌%◌, ◌^◌, ◌<◌, ◌≤◌, min, Bool, ltb, List, ◌++◌, length, take, drop, Ok, Err, sym, ap, ◌∙◌, add-mul, zero-add, arith}
 use lib.Seq.{drop-append-add}
 use Rattle.std.proofs.lemmas.Nat.{mul-le}
-use Rattle.std.proofs.lemmas.List.{length-append, length-take, length-drop, take-append-le, drop-append-le, drop-drop}
+use Rattle.std.proofs.lemmas.List.{length-append, length-take, length-drop, take-append-le, drop-append-le}
 use Rattle.std.proofs.lemmas.Bool.{le-ltb, lt-ltb}
 use Rattle.std.proofs.lemmas.Bool.Decides.{nat_tests}
 use Rattle.bits.specs.declared.refusal.Refusal.{Refusal}
-use Rattle.bits.specs.declared.refusal.Refusal.TheVariants.{TooWide, PastEnd}
+use Rattle.bits.specs.declared.refusal.Refusal.TheVariants.{PastEnd}
 use Rattle.bits.specs.Bits.{number, part, bits_all, limited, longest, length-limited, length-bits_all}
 use Rattle.bits.specs.Get.{widest, get_answer}
 use Rattle.bits.proofs.Numbers.{part-part, number-part_lt, number_within}

@@ -1,7 +1,7 @@
 -- The laws that the layers above rest on.
-use Rattle.std.proofs.Common.{◌≡◌, ℕ, ◌+◌, ◌-◌, ◌%◌, ◌^◌, ◌<◌, ◌≤◌, min, Bool, true, false, eqb, List, [], ◌∷◌, ◌++◌, length, take, drop, sym, refl, ap, ◌∙◌, one-mul, zero-add, zero-mul, arith}
-use Rattle.std.proofs.lemmas.Nat.{shr_high, pow_pos}
-use Rattle.std.proofs.lemmas.List.{length-append, append_assoc, length-take, length-drop, take-append-drop, drop-drop, take_at, drop_at, take-append-le, drop-append-le, take-take}
+use Rattle.std.proofs.Common.{◌≡◌, ℕ, ◌+◌, ◌-◌, ◌%◌, ◌^◌, ◌≤◌, min, Bool, true, false, List, [], ◌∷◌, ◌++◌, length, take, drop, sym, refl, ap, ◌∙◌, zero-add, arith}
+use Rattle.std.proofs.lemmas.Nat.{shr_high}
+use Rattle.std.proofs.lemmas.List.{length-append, length-take, length-drop, take-append-drop, drop-drop, take_at, drop_at, take-append-le, drop-append-le}
 use Rattle.bits.specs.Bits.{number, part, bits_of, length-bits_of}
 use Rattle.bits.specs.Put.{with_bits}
 use Rattle.bits.specs.Laws.{Laws, BitsOfNumber, GetAgrees, PutLength, PutGet, PutBefore, PutAfter, PutSame}

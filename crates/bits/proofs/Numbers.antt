@@ -1,11 +1,11 @@
 -- The number that bits write: of two lists, of a part, of the bits of numbers.
-use Rattle.std.proofs.Common.{◌≡◌, ℕ, zero, suc, ◌+◌, ◌-◌, ◌*◌, ◌/◌, ◌%◌, ◌^◌, ◌<◌, ◌≤◌, min, Bool, true, false, eqb, List, [], ◌∷◌, ◌++◌, length, get_or, take, drop, sym, refl, ap, ◌∙◌, subst, add_assoc, mod-eq_of_lt, mul_assoc, suc-mul, add-mul, one-mul, zero-add, zero-mul, one-add, arith, take-add, pow_mono}
+use Rattle.std.proofs.Common.{◌≡◌, ℕ, zero, suc, ◌+◌, ◌-◌, ◌*◌, ◌/◌, ◌%◌, ◌^◌, ◌<◌, ◌≤◌, min, Bool, true, false, eqb, List, [], ◌∷◌, ◌++◌, length, get_or, take, drop, sym, refl, ap, ◌∙◌, subst, add_assoc, mod-eq_of_lt, mul_assoc, suc-mul, add-mul, one-mul, zero-mul, one-add, arith, take-add, pow_mono}
 use native.Mathlib.Nat.{pow-succ'}
 use lib.Bits.{bit_or}
 use lib.Seq.{take-nil, drop-nil, take-append-add, drop-append-add}
 use Rattle.std.proofs.lemmas.Nat.{pow-add, shr_high, mod_low, mod-pow-add, mod_below, mul-le, shl_whole, or_shifted}
 use Rattle.std.proofs.lemmas.List.{length-append, append-nil, take_more, take_rest, length-take, length-drop, take-append-drop, drop-drop, drop-take, append_assoc, drop-append-le, take-take}
-use Rattle.bits.specs.Bits.{bit_value, number, part, bits_of, bits_all, limited, longest, length-bits_of, length-bits_all}
+use Rattle.bits.specs.Bits.{bit_value, number, part, bits_of, bits_all, length-bits_of, length-bits_all}
 
 pub number_append : (a b : List Bool) → number (a ++ b) ≡ number a * 2 ^ length b + number b
 unfolding number

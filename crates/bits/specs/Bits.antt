@@ -1,5 +1,5 @@
 -- Lists of bits: the number that one writes, its parts, and the bits of numbers.
-use Rattle.std.specs.Prelude.{◌≡◌, ℕ, zero, suc, ◌+◌, ◌*◌, ◌/◌, ◌%◌, ◌^◌, ◌<◌, ◌≤◌, min, Bool, true, false, List, [], ◌∷◌, ◌++◌, length, take, drop, ◌==◌, refl}
+use Rattle.std.specs.Prelude.{◌≡◌, ℕ, zero, suc, ◌+◌, ◌*◌, ◌/◌, ◌%◌, ◌^◌, ◌≤◌, min, Bool, true, false, List, [], ◌∷◌, length, take, drop, ◌==◌, refl}
 use Rattle.std.proofs.Common.{ap, arith, suc-mul}
 use Rattle.std.proofs.lemmas.List.{length-append, take_all, length-take, length-drop}
 use Rattle.std.specs.List.{flat_map}

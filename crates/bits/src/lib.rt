@@ -7,6 +7,8 @@
 // - `put`: storing bits into bytes.
 // - `zero`: whether bits are all 0.
 // - `laws`: the laws of lists of bits.
+#![tactic(auto)]
+
 pub mod bytes;
 mod field;
 pub mod join;

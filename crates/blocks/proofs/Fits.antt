@@ -1,6 +1,6 @@
 -- In a sound block no line's blocks run past what holds the line.
-use Rattle.std.proofs.Common.{◌≡◌, ℕ, zero, suc, ◌+◌, ◌-◌, ◌<◌, ◌≤◌, Bool, true, false, cond, not, ◌&&◌, ◌||◌, eqb, ltb, leb, ◌⊎◌, length, Option, sym, refl, ap, ◌∙◌, subst, inl, inr, arith, ltb-true, le-ltb, leb-true}
-use Rattle.std.proofs.lemmas.Bool.{and_parts, or_parts, not-false, cases_Bool}
+use Rattle.std.proofs.Common.{◌≡◌, ℕ, zero, suc, ◌+◌, ◌-◌, ◌<◌, ◌≤◌, Bool, true, false, not, ◌&&◌, ◌||◌, ltb, leb, length, Option, sym, refl, ap, ◌∙◌, subst, inl, inr, arith, ltb-true, le-ltb, leb-true}
+use Rattle.std.proofs.lemmas.Bool.{and_parts, or_parts, not-false}
 use Rattle.std.proofs.lemmas.Bool.Decides.{leb_tells}
 use Rattle.table.specs.Description.{Description, statement_at, class_at, extension_at}
 use Rattle.table.specs.First.{is_some, first_upto, some_upto}

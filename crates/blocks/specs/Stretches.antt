@@ -1,5 +1,5 @@
 -- Each line in one stretch of a class or extension, and its blocks inside what holds it; blocks and nodes at most 8 deep.
-use Rattle.std.specs.Prelude.{ℕ, ◌+◌, Bool, true, false, not, ◌&&◌, ◌||◌, length, ◌==◌, nat_le, nat_lt}
+use Rattle.std.specs.Prelude.{ℕ, ◌+◌, Bool, not, ◌&&◌, ◌||◌, length, ◌==◌, nat_le, nat_lt}
 use Rattle.table.specs.Description.{Description, class_at, extension_at, statement_at}
 use Rattle.table.specs.First.{some_upto, count_upto}
 use Rattle.passes.specs.Stretches.{in_stretch}

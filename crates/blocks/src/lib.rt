@@ -1,4 +1,6 @@
 // The rules for stretches and blocks of lines, and for how deep blocks and nodes nest.
+#![tactic(auto)]
+
 pub mod blocks;
 pub mod deep;
 pub mod faults;

@@ -1,4 +1,5 @@
 // cases: runs the kept cases with known answers, and says how many there are and which of them differ.
+#![tactic(auto)]
 
 mod descriptions;
 mod growth_cases;

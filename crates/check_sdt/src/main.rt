@@ -1,4 +1,6 @@
 // check: says whether a description file is accepted, or which rule it breaks first.
+#![tactic(auto)]
+
 use anyhow::anyhow;
 use checked::checked::Checked;
 use records::faults::Fault;

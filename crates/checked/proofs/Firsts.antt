@@ -1,11 +1,11 @@
 -- The first fault is the first that the rules name.
-use Rattle.std.proofs.Common.{◌≡◌, ℕ, zero, suc, ◌+◌, ◌<◌, ◌≤◌, Bool, true, false, ◌&&◌, ◌||◌, eqb, ltb, leb, ◌⊎◌, List, [], ◌∷◌, ◌++◌, length, Some, None, Option, sym, refl, ap, ◌∙◌, inl, inr, arith, ltb-true, eqb-true}
+use Rattle.std.proofs.Common.{◌≡◌, ℕ, zero, suc, ◌<◌, ◌≤◌, Bool, true, false, ◌&&◌, ◌||◌, eqb, ltb, ◌⊎◌, List, [], ◌∷◌, ◌++◌, length, Some, None, Option, sym, refl, ap, inl, inr, arith, ltb-true, eqb-true}
 use Rattle.std.proofs.lemmas.Bool.Decides.{leb_tells}
 use Rattle.records.specs.Causes.{cause_number, table_number}
 use Rattle.records.specs.declared.faults.Cause.{Cause}
 use Rattle.records.specs.declared.faults.Cause.TheVariants.{Field, Stretch, Depth, Rank, Owner, Place}
 use Rattle.records.specs.declared.faults.Table.{Table}
-use Rattle.records.specs.declared.faults.Table.TheVariants.{File, Classes, Names, Extensions, Lines, Nodes, Maps, Rows}
+use Rattle.records.specs.declared.faults.Table.TheVariants.{Classes, Names, Extensions, Lines, Nodes, Maps, Rows}
 use Rattle.records.specs.declared.faults.Fault.{Fault}
 use Rattle.table.specs.Description.{Description}
 use Rattle.table.specs.First.{or_else, when, first_upto}
@@ -18,7 +18,7 @@ use Rattle.places.specs.Classes.{class_place}
 use Rattle.places.specs.Uses.{top_place, extension_place, line_place}
 use Rattle.places.specs.Rows.{row_place}
 use Rattle.checked.specs.Check.{first_fault}
-use Rattle.checked.specs.Law.{Rule, each, top, rules, Breaks, NoLater, First, Says}
+use Rattle.checked.specs.Law.{Rule, each, top, rules, Breaks, NoLater, Says}
 
 -- what a search among the records of a rule has found
 abbrev pub Finds : (ℕ → Type 0) → Option ℕ → Type 0

@@ -1,5 +1,5 @@
 -- What follows where no fault is found: no rule is broken, and a line is in one stretch.
-use Rattle.std.proofs.Common.{◌≡◌, ℕ, zero, suc, ◌+◌, ◌<◌, ◌≤◌, Bool, true, false, cond, not, ◌&&◌, ◌||◌, eqb, leb, ◌⊎◌, List, [], ◌∷◌, length, Some, None, Option, sym, refl, ap, ◌∙◌, subst, inl, inr, arith, eqb-true}
+use Rattle.std.proofs.Common.{◌≡◌, ℕ, zero, suc, ◌+◌, ◌<◌, ◌≤◌, Bool, true, false, cond, ◌&&◌, List, [], ◌∷◌, length, Some, None, Option, sym, refl, ap, ◌∙◌, subst, inl, inr, arith, eqb-true}
 use Rattle.std.proofs.lemmas.Bool.Decides.{leb_tells}
 use Rattle.std.proofs.lemmas.Bool.{cases_Bool, not-false, or_parts}
 use Rattle.records.specs.declared.faults.Cause.{Cause}
@@ -9,7 +9,6 @@ use Rattle.table.specs.Description.{Description, extension_at}
 use Rattle.table.specs.First.{or_else, when, is_some, first_upto, some_upto, count_upto}
 use Rattle.blocks.specs.Stretches.{in_class, in_extension, in_one}
 use Rattle.owners.specs.Lines.{class_of_line}
-use Rattle.checked.specs.Check.{first_fault}
 use Rattle.checked.specs.Law.{Rule, rules, Breaks, Says}
 use Rattle.checked.specs.Faultless.{Unbroken, Faultless, FaultlessLaw}
 use Rattle.checked.proofs.Firsts.{Finds, finds_each, first_fault_law}

@@ -1,5 +1,5 @@
 -- Where no line's blocks run past what holds it, and none stands too deep, each stretch is a sound block.
-use Rattle.std.proofs.Common.{◌≡◌, ℕ, zero, suc, ◌+◌, ◌-◌, ◌<◌, ◌≤◌, Bool, true, false, cond, not, ◌&&◌, ◌||◌, eqb, ltb, leb, ◌⊎◌, length, sym, refl, ap, ◌∙◌, subst, inl, inr, add-zero, add-suc, arith, ltb-false, le-ltb, lt-ltb, le-leb, leb-false}
+use Rattle.std.proofs.Common.{◌≡◌, ℕ, zero, suc, ◌+◌, ◌-◌, ◌<◌, ◌≤◌, Bool, true, false, not, ◌&&◌, ◌||◌, ltb, leb, length, sym, ◌∙◌, subst, inl, inr, add-zero, add-suc, arith, ltb-false, le-ltb, lt-ltb, le-leb, leb-false}
 use borrow.Author.Tests.{lt-leb}
 use Rattle.std.proofs.lemmas.Bool.{cases_Bool, not-false, or_parts}
 use Rattle.std.proofs.lemmas.Bool.Decides.{leb_tells}

@@ -1,7 +1,7 @@
 -- Plain facts of fields that are fine.
-use Rattle.std.proofs.Common.{◌≡◌, ℕ, zero, suc, ◌+◌, ◌-◌, ◌<◌, ◌≤◌, Bool, true, false, cond, not, ◌&&◌, ◌||◌, T, eqb, ltb, leb, ◌⊎◌, List, [], ◌∷◌, length, get_or, sym, refl, ap, ◌∙◌, inl, inr, arith, ltb-true, ne_eqb, eqb-true, leb-true}
+use Rattle.std.proofs.Common.{◌≡◌, ℕ, zero, suc, ◌+◌, ◌-◌, ◌<◌, ◌≤◌, Bool, true, false, cond, not, ◌&&◌, T, eqb, ltb, leb, refl, inl, inr, arith, ltb-true, ne_eqb, eqb-true, leb-true}
 use borrow.Author.Tests.{eqb-false}
-use Rattle.std.proofs.lemmas.Bool.{not-false, not-true, and_parts}
+use Rattle.std.proofs.lemmas.Bool.{not-true, and_parts}
 use Rattle.std.proofs.lemmas.Bool.Decides.{leb_tells}
 use Rattle.records.specs.Classes.{is_member}
 use Rattle.records.specs.declared.counts.Counts.{Counts}
@@ -10,8 +10,7 @@ use Rattle.records.specs.declared.records.Extension.{Extension}
 use Rattle.records.specs.declared.records.Node.{Node}
 use Rattle.fields.specs.Values.{names_one, is_stretch, one_to_sixteen}
 use Rattle.fields.specs.Tables.{base_fine, abstract_fine, class_fine, extension_fine}
-use Rattle.fields.specs.Nodes.{is_operator, is_earlier, node_fine}
-use Rattle.table.specs.Description.{entry}
+use Rattle.fields.specs.Nodes.{is_earlier, node_fine}
 
 pub some_number : (v w : ℕ) → (not (eqb v 0) && leb v w) ≡ true → (0 < v) × (v ≤ w)
 some_number v w e =

@@ -1,11 +1,10 @@
 -- What a line uses ranks below the line's class.
-use Rattle.std.proofs.Common.{◌≡◌, ℕ, zero, suc, ◌+◌, ◌<◌, ◌≤◌, Bool, true, false, cond, not, ◌&&◌, ◌||◌, T, eqb, ltb, leb, ◌⊎◌, List, [], ◌∷◌, length, sym, refl, ap, ◌∙◌, subst, inl, inr, arith, eq-eqb, leb-true}
+use Rattle.std.proofs.Common.{◌≡◌, ℕ, zero, suc, ◌+◌, ◌<◌, ◌≤◌, Bool, true, false, not, ◌&&◌, ◌||◌, T, eqb, leb, List, length, refl, subst, inl, inr, arith, eq-eqb, leb-true}
 use Rattle.std.proofs.lemmas.Bool.{not-false, and_parts, or_parts}
 use Rattle.std.proofs.lemmas.Bool.Decides.{leb_tells}
 use Rattle.records.specs.Classes.{is_base, is_member}
 use Rattle.records.specs.Statements.{statement}
 use Rattle.records.specs.declared.records.Class.{Class}
-use Rattle.records.specs.declared.records.Extension.{Extension}
 use Rattle.records.specs.declared.statements.Statement.{Statement}
 use Rattle.records.specs.declared.statements.Statement.TheVariants.{Read, Assign, MapRead, Use, If, While, Unknown}
 use Rattle.fields.specs.Values.{names_one}
@@ -14,14 +13,14 @@ use Rattle.table.specs.Description.{Description, entry, no_class, no_extension, 
 use Rattle.table.proofs.Scans.{entry_zero, entry_none}
 use Rattle.owners.specs.Lines.{class_of_line}
 use Rattle.owners.specs.Ranks.{used_by}
-use Rattle.places.specs.Classes.{ids_fit, later, names_as_later}
+use Rattle.places.specs.Classes.{later, names_as_later}
 use Rattle.places.specs.Uses.{statement_wrong}
 use Rattle.checked.specs.Chains.{MakesObject}
 use Rattle.checked.specs.Faultless.{Faultless}
 use Rattle.checked.specs.Sound.{Below, LineRanked, Ranked, RankedLaw}
 use Rattle.checked.proofs.Held.{faultless, no_some, and_rest, of_class, of_extension, in_one-holds}
 use Rattle.checked.proofs.Nest.{held_in}
-use Rattle.checked.proofs.Numbered.{some_number, in_table, base_there, no_base, extension_parts, operands, known_kind, TIs, is_T}
+use Rattle.checked.proofs.Numbered.{some_number, in_table, base_there, no_base, extension_parts, operands, known_kind, TIs}
 use Rattle.checked.proofs.Chained.{made_below}
 use Rattle.checked.proofs.Sounds.{all_of, line_is_fine, as_statement, class_is_fine}
 

@@ -1,22 +1,20 @@
 -- What records name is there.
-use Rattle.std.proofs.Common.{◌≡◌, ℕ, zero, suc, ◌+◌, ◌-◌, ◌<◌, ◌≤◌, Bool, true, false, cond, not, ◌&&◌, ◌||◌, T, eqb, ltb, leb, ◌⊎◌, List, [], ◌∷◌, length, get_or, sym, refl, ap, ◌∙◌, subst, inl, inr, add-zero, add_assoc, add_comm, zero-add, arith, ltb-true, lt-ltb, eq-eqb, ne_eqb, eqb-true, leb-true}
+use Rattle.std.proofs.Common.{◌≡◌, ℕ, zero, suc, ◌+◌, ◌<◌, ◌≤◌, Bool, true, false, cond, not, ◌&&◌, T, eqb, ltb, leb, ◌⊎◌, List, [], ◌∷◌, length, sym, refl, ap, ◌∙◌, subst, inl, inr, add_assoc, arith, ltb-true, lt-ltb, ne_eqb, eqb-true, leb-true}
 use borrow.Author.Tests.{eqb-false}
-use Rattle.std.proofs.lemmas.Bool.{not-false, not-true, and_parts, or_parts, both_ways, cases_Bool}
+use Rattle.std.proofs.lemmas.Bool.{not-false, and_parts, or_parts, both_ways}
 use Rattle.records.specs.Classes.{is_plain, is_base, is_member}
 use Rattle.records.specs.Statements.{statement}
-use Rattle.records.specs.declared.counts.Counts.{Counts}
 use Rattle.records.specs.declared.records.Class.{Class}
 use Rattle.records.specs.declared.records.Extension.{Extension}
 use Rattle.records.specs.declared.records.Line.{Line}
 use Rattle.records.specs.declared.statements.Statement.{Statement}
 use Rattle.records.specs.declared.statements.Statement.TheVariants.{Read, Assign, MapRead, Use, If, While, Unknown}
-use Rattle.fields.specs.Values.{names_one, is_stretch, one_to_sixteen}
-use Rattle.fields.specs.Lines.{read_nodes_fine, read_rest_fine, use_fine, limits_fine, carry_fine, statement_fine, used_fields, rest_unused, line_fine}
-use Rattle.fields.specs.Tables.{map_fine}
+use Rattle.fields.specs.Values.{names_one, one_to_sixteen}
+use Rattle.fields.specs.Lines.{read_nodes_fine, use_fine, limits_fine, statement_fine}
 use Rattle.table.specs.Description.{Description, entry, no_class, no_extension, no_line, no_node, no_map, class_at, extension_at, line_at, statement_at, node_at, map_at, counts_of}
 use Rattle.table.specs.First.{count_upto}
 use Rattle.table.proofs.Scans.{entry_zero}
-use Rattle.passes.specs.Families.{family, in_family, expandable}
+use Rattle.passes.specs.Families.{in_family, expandable}
 use Rattle.passes.specs.Stretches.{in_stretch}
 use Rattle.owners.specs.Names.{carry_wrong, carries_wrong}
 use Rattle.checked.specs.Faultless.{Faultless}

@@ -1,5 +1,5 @@
 -- What the first fault is, in the words of the rules: some rule names that record, and what else any rule names comes no earlier.
-use Rattle.std.specs.Prelude.{◌≡◌, ℕ, ◌<◌, ◌≤◌, Bool, true, false, ◌⊎◌, List, [], ◌∷◌, length, Some, None, Option}
+use Rattle.std.specs.Prelude.{◌≡◌, ℕ, ◌<◌, ◌≤◌, Bool, true, ◌⊎◌, List, [], ◌∷◌, length, Some, None, Option}
 use Rattle.records.specs.Causes.{cause_number, table_number}
 use Rattle.records.specs.declared.faults.Cause.{Cause}
 use Rattle.records.specs.declared.faults.Cause.TheVariants.{Field, Stretch, Depth, Rank, Owner, Place}
@@ -14,7 +14,6 @@ use Rattle.owners.specs.Names.{line_owner, node_owner}
 use Rattle.places.specs.Classes.{class_place}
 use Rattle.places.specs.Uses.{top_place, extension_place, line_place}
 use Rattle.places.specs.Rows.{row_place}
-use Rattle.checked.specs.Check.{first_fault}
 
 -- a rule on the records of one table, and which of them it names
 pub record Rule : Type 1 where

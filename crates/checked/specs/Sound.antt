@@ -1,5 +1,5 @@
 -- What readings rest on: what records name is there, and what a line uses ranks below its class.
-use Rattle.std.specs.Prelude.{◌≡◌, ℕ, suc, ◌+◌, ◌<◌, ◌≤◌, Bool, cond, not, ◌&&◌, T, List, [], ◌∷◌, length, None, nat_le, nat_lt}
+use Rattle.std.specs.Prelude.{◌≡◌, ℕ, suc, ◌+◌, ◌<◌, ◌≤◌, cond, not, ◌&&◌, T, List, [], ◌∷◌, length, None, nat_le, nat_lt}
 use Rattle.records.specs.Classes.{is_base, is_member}
 use Rattle.records.specs.Statements.{statement}
 use Rattle.records.specs.declared.records.Class.{Class}

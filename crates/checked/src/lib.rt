@@ -1,4 +1,6 @@
 // The check of a description: its first fault, and descriptions that have none.
+#![tactic(auto)]
+
 pub mod checked;
 pub mod field_faults;
 pub mod first;

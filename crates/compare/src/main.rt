@@ -1,4 +1,6 @@
 // compare: reads a stream by an older and by a newer description side by side, and prints what the older's reader sees.
+#![tactic(auto)]
+
 use anyhow::anyhow;
 use bits::bytes::Bytes;
 use bits::refusal::Refusal;

@@ -1,5 +1,5 @@
 -- The fields of lines: each has one of its values, and names records that are there.
-use Rattle.std.specs.Prelude.{Bool, true, false, cond, not, ◌&&◌, ◌||◌, ℕ, eqb, leb}
+use Rattle.std.specs.Prelude.{Bool, false, cond, not, ◌&&◌, ◌||◌, ℕ, eqb, leb}
 use Rattle.records.specs.Statements.{statement}
 use Rattle.records.specs.declared.counts.Counts.{Counts}
 use Rattle.records.specs.declared.records.Line.{Line}

@@ -1,4 +1,6 @@
 // items: reads a stream by a description, and prints its items.
+#![tactic(auto)]
+
 use anyhow::anyhow;
 use bits::bytes::Bytes;
 use checked::checked::Checked;

@@ -1,4 +1,6 @@
 // What a reading does inside one open object: what the object still has to do, and each step of it.
+#![tactic(auto)]
+
 pub mod frame;
 pub mod frames;
 pub mod inside;

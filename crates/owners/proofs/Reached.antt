@@ -6,9 +6,8 @@ use Rattle.std.proofs.lemmas.List.Edits.{fill_by_more}
 use Rattle.std.proofs.lemmas.List.{get_or_past}
 use Rattle.std.proofs.lemmas.Bool.Decides.{leb_tells}
 use Rattle.fields.specs.Nodes.{is_operator}
-use Rattle.table.specs.Description.{Description, node_at, entry, no_node}
+use Rattle.table.specs.Description.{Description, node_at, no_node}
 use Rattle.table.proofs.Scans.{entry_none, entry_zero}
-use Rattle.records.specs.declared.records.Node.{Node}
 use Rattle.owners.specs.Lines.{class_of_line}
 use Rattle.owners.specs.Names.{may_not_take, takes_wrong}
 use Rattle.owners.specs.Reach.{reaches_by, reaches_within, reaches}

@@ -1,4 +1,6 @@
 // The rules for the ranks of used classes, and for the names that are a line's to take.
+#![tactic(auto)]
+
 pub mod faults;
 pub mod lines;
 pub mod names;

@@ -3,6 +3,8 @@
 // - `own`: an item's own bits as a number.
 // - `trial`: a source that is all 0 but for them.
 // - `store`: storing bits of a source into bytes.
+#![tactic(auto)]
+
 mod headers;
 mod lookups;
 mod maps;

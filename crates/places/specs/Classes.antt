@@ -1,5 +1,5 @@
 -- Id widths, greatest sizes and ids where they belong.
-use Rattle.std.specs.Prelude.{ℕ, ◌+◌, ◌^◌, Bool, true, false, cond, not, ◌&&◌, ◌||◌, length, ◌==◌, nat_le, nat_lt}
+use Rattle.std.specs.Prelude.{ℕ, ◌^◌, Bool, cond, not, ◌&&◌, ◌||◌, length, ◌==◌, nat_le, nat_lt}
 use Rattle.records.specs.Classes.{is_plain, is_base, is_member}
 use Rattle.records.specs.declared.records.Class.{Class}
 use Rattle.table.specs.Description.{Description, class_at}

@@ -1,4 +1,6 @@
 // Readings of a source by a checked description: items are handed out one by one.
+#![tactic(auto)]
+
 mod ending;
 mod lookups;
 pub mod next;

@@ -1,4 +1,6 @@
 // The records of a description's seven tables, a view of lines with their fields by name, and the faults of a description.
+#![tactic(auto)]
+
 pub mod classes;
 pub mod counts;
 pub mod faults;

@@ -1,4 +1,6 @@
 // What a reading by a description does, as definitions in specs/, and the laws about it.
+#![tactic(auto)]
+
 pub mod faults;
 pub mod items;
 pub mod laws;

@@ -1,4 +1,6 @@
 // Compares sources of every kind, and stored bits, with readings bit by bit.
+#![tactic(auto)]
+
 mod gets;
 mod joined;
 mod puts;

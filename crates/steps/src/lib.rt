@@ -1,4 +1,6 @@
 // The steps of a reading that hand out nothing, over any source of bits.
+#![tactic(auto)]
+
 pub mod bits_taken;
 pub mod elements;
 pub mod headers;

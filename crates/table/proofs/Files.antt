@@ -1,6 +1,5 @@
 -- What a file without a fault has.
-use Rattle.std.proofs.Common.{◌≡◌, ℕ, ◌≤◌, Bool, true, false, cond, not, ◌&&◌, eqb, leb, List, length, Some, None, Option, refl, arith, eqb-true}
-use Rattle.records.specs.declared.faults.Cause.{Cause}
+use Rattle.std.proofs.Common.{◌≡◌, ℕ, ◌≤◌, Bool, true, false, cond, not, ◌&&◌, eqb, leb, List, length, Some, None, refl, arith, eqb-true}
 use Rattle.records.specs.declared.faults.Cause.TheVariants.{Mark, Version, Count, Length}
 use Rattle.table.specs.Loading.{has_mark, has_version, counts_at, counts_fit, file_length, file_fault}
 

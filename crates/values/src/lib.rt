@@ -1,3 +1,5 @@
 // Evaluation of nodes.
+#![tactic(auto)]
+
 pub mod evaluate;
 pub mod operators;

@@ -1,4 +1,6 @@
 // Writings of a stream by a checked description: items are put one by one.
+#![tactic(auto)]
+
 mod lines;
 pub mod open;
 pub mod put;

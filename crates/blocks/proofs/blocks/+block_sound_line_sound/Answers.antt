@@ -1,6 +1,6 @@
 use Rattle.std.proofs.Common.{arith}
 use Rattle.table.specs.Description.{description}
-use Rattle.blocks.proofs.Steps.{sound_none, past_unsound, past_sound, line_fits}
+use Rattle.blocks.proofs.Steps.{sound_none, past_unsound, past_sound}
 use Rattle.blocks.proofs.blocks.+block_sound_line_sound.Goals as goal
 
 pub block_sound-returns-then-count-eq0 : goal.block_sound-returns-then-count-eq0

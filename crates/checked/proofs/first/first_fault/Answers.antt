@@ -1,4 +1,4 @@
-use Rattle.std.proofs.Common.{◌≡◌, Option, sym, subst}
+use Rattle.std.proofs.Common.{Option, sym, subst}
 use Rattle.records.specs.declared.faults.Fault.{Fault}
 use Rattle.table.specs.Description.{description}
 use Rattle.checked.specs.Law.{rules, Says}

@@ -1,6 +1,6 @@
-use Rattle.std.proofs.Common.{◌≡◌, ℕ, ◌+◌, ◌<◌, Bool, true, false, length, get_or, Option, sym, ap, ◌∙◌, arith}
+use Rattle.std.proofs.Common.{ℕ, ◌+◌, ◌<◌, true, false, length, get_or, Option, ap, arith}
 use Rattle.table.specs.Description.{description}
-use Rattle.table.specs.First.{is_some, first_upto}
+use Rattle.table.specs.First.{is_some}
 use Rattle.table.proofs.Scans.{first_none, first_passed, first_found}
 use Rattle.owners.specs.Names.{takes_wrong}
 use Rattle.owners.proofs.Reached.{wrong_said}

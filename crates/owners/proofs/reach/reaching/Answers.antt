@@ -1,4 +1,4 @@
-use Rattle.std.proofs.Common.{false, length, replicate, refl, ◌∙◌, inl, inr, arith, length-set}
+use Rattle.std.proofs.Common.{false, replicate, refl, ◌∙◌, inl, inr, arith, length-set}
 use Rattle.std.proofs.lemmas.Bool.Decides.{leb_tells}
 use Rattle.table.specs.Description.{description}
 use Rattle.owners.proofs.Reached.{unmarked, marked_none, marked_more, unmarked_more, reaches_past}

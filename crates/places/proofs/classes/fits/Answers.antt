@@ -1,4 +1,4 @@
-use Rattle.std.proofs.Common.{◌≡◌, ◌^◌, ◌<◌, ◌≤◌, sym, ap, ◌∙◌, arith, pow_mono, lt-ltb}
+use Rattle.std.proofs.Common.{◌^◌, ◌≤◌, sym, arith, pow_mono, lt-ltb}
 use Rattle.std.proofs.lemmas.Nat.{one_shl}
 use Rattle.places.specs.Classes.{fits}
 use Rattle.places.proofs.classes.fits.Goals as goal
