@@ -5,6 +5,7 @@ use anyhow::anyhow;
 use checked::checked::Checked;
 use records::faults::Fault;
 use std::alloc::Global;
+use std::process::ExitCode;
 use std::{env, fs};
 use table::load::load;
 use table::loaded::Loaded;
@@ -18,9 +19,17 @@ or 'refused' and three numbers: the rule that is broken, the table (1 to 7 in th
 file as a whole or its top class) and the record. One sentence on what the number means goes to
 standard error. The status is 0 if the description is accepted, else 1.";
 
-fn main(rt: HostRuntime) -> anyhow::Result<()> {
-    match file_name(&rt) {
-        Ok(Some(name)) => check(&rt, name.as_str()),
+fn main(rt: HostRuntime) -> ExitCode {
+    match run(&rt) {
+        Ok(()) => ExitCode::SUCCESS,
+        // what went wrong has been said
+        Err(_) => ExitCode::FAILURE,
+    }
+}
+
+fn run(rt: &HostRuntime) -> anyhow::Result<()> {
+    match file_name(rt) {
+        Ok(Some(name)) => check(rt, name.as_str()),
         Ok(None) => Ok(rt.println(HELP)?),
         Err(error) => {
             eprintln!(rt; "check: {error}")?;

@@ -8,6 +8,7 @@ use reading::state::Reading;
 use records::faults::Fault;
 use rules::faults::ReadingFault;
 use std::alloc::Global;
+use std::process::ExitCode;
 use std::{env, fs};
 use table::load::load;
 
@@ -28,9 +29,17 @@ struct Files {
     stream: String,
 }
 
-fn main(rt: HostRuntime) -> anyhow::Result<()> {
-    match named_files(&rt) {
-        Ok(Some(files)) => items(&rt, files.description.as_str(), files.stream.as_str()),
+fn main(rt: HostRuntime) -> ExitCode {
+    match run(&rt) {
+        Ok(()) => ExitCode::SUCCESS,
+        // what went wrong has been said
+        Err(_) => ExitCode::FAILURE,
+    }
+}
+
+fn run(rt: &HostRuntime) -> anyhow::Result<()> {
+    match named_files(rt) {
+        Ok(Some(files)) => items(rt, files.description.as_str(), files.stream.as_str()),
         Ok(None) => Ok(rt.println(HELP)?),
         Err(error) => {
             eprintln!(rt; "items: {error}")?;

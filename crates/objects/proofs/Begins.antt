@@ -1,16 +1,14 @@
 -- An object at its beginning.
-use Rattle.std.proofs.Common.{◌≡◌, ℕ, zero, suc, ◌+◌, ◌<◌, ◌≤◌, Bool, List, [], ◌∷◌, length, get_or, drop, replicate, ℤ, pos, sym, refl, ap, ◌∙◌, subst, arith}
+use Rattle.std.proofs.Common.{◌≡◌, ℕ, zero, suc, ◌<◌, ◌≤◌, [], ◌∷◌, length, get_or, replicate, pos, sym, refl, subst, arith}
 use mathlib.Core.Path.{fun_ext}
 use Rattle.std.proofs.lemmas.List.{drop_all}
 use Rattle.records.specs.declared.records.Class.{Class}
-use Rattle.records.specs.declared.records.Extension.{Extension}
 use Rattle.table.specs.Description.{Description, entry, class_at}
-use Rattle.rules.specs.Trace.{Run, bind, done}
 use Rattle.rules.specs.Code.{code}
-use Rattle.rules.specs.Reading.{State, Object, Objects, content, extensions, all_zero}
+use Rattle.rules.specs.Reading.{content, extensions, all_zero}
 use Rattle.values.specs.Names.{named_by}
 use Rattle.objects.specs.declared.frame.Frame.TheVariants.{Lines}
-use Rattle.objects.specs.Ahead.{Inner, inner_run, content_run, frame_run, height, wants, Fit, Readable}
+use Rattle.objects.specs.Ahead.{content_run, frame_run, height, wants, Fit, Readable}
 use Rattle.objects.specs.Starts.{Begun}
 
 zero_at : (n m : ℕ) → get_or (replicate n (pos 0)) m (pos 0) ≡ pos 0

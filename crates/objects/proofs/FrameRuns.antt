@@ -1,5 +1,5 @@
 -- What each kind of frame does to what lies ahead in its object.
-use Rattle.std.proofs.Common.{◌≡◌, ℕ, zero, suc, ◌+◌, ◌-◌, ◌<◌, ◌≤◌, min, max, Bool, true, false, eqb, leb, ◌≢◌, ◌⊎◌, List, [], ◌∷◌, length, drop, ℤ, Ok, Err, sym, refl, ap, ◌∙◌, subst, ap₂, inl, inr, add-one, arith, drop-cons}
+use Rattle.std.proofs.Common.{◌≡◌, ℕ, zero, suc, ◌+◌, ◌-◌, ◌<◌, ◌≤◌, min, Bool, true, false, eqb, leb, ◌⊎◌, List, [], ◌∷◌, length, drop, ℤ, Ok, Err, sym, refl, ap, ◌∙◌, subst, inl, inr, add-one, arith, drop-cons}
 use Rattle.std.proofs.lemmas.Bool.Decides.{nat_tests}
 use Rattle.std.proofs.lemmas.List.{drop_all}
 use Rattle.records.specs.declared.records.Extension.{Extension}
@@ -10,11 +10,11 @@ use Rattle.rules.specs.declared.steps.Got.{Got}
 use Rattle.rules.specs.declared.lines.ReadLine.{ReadLine}
 use Rattle.rules.specs.declared.lines.UseLine.{UseLine}
 use Rattle.rules.specs.Trace.{Run, out, pass, stop, done, bind, bind_assoc}
-use Rattle.rules.specs.Checks.{Check, attempt, ensure, fault, pick}
-use Rattle.rules.specs.Values.{Names, is_zero}
+use Rattle.rules.specs.Checks.{Check, attempt, ensure, fault}
+use Rattle.rules.specs.Values.{is_zero}
 use Rattle.rules.specs.Steps.{element, next_multiple, aligned}
-use Rattle.rules.specs.Code.{Code, while, code}
-use Rattle.rules.specs.Reading.{State, Object, Objects, valued, elements, objects, enough_objects, objects_to_end, rounds, run, write, after_read, after_object, value_item, extensions}
+use Rattle.rules.specs.Code.{code}
+use Rattle.rules.specs.Reading.{State, Object, Objects, valued, elements, objects, enough_objects, objects_to_end, rounds, run, write, after_object, value_item, extensions}
 use Rattle.objects.specs.declared.frame.Frame.{Frame}
 use Rattle.objects.specs.declared.frame.Frame.TheVariants.{Lines, Rounds, Elements, Counted, Uncounted}
 use Rattle.objects.specs.declared.moves.Move.{Move}

@@ -1,22 +1,22 @@
 -- What each kind of line does to what lies ahead in its object.
-use Rattle.std.proofs.Common.{◌≡◌, ℕ, zero, suc, ◌+◌, ◌-◌, ◌<◌, ◌≤◌, min, max, Bool, true, false, ◌≢◌, List, [], ◌∷◌, length, ℤ, Ok, Err, sym, refl, ap, ◌∙◌, subst, ap₂, add-one, arith}
+use Rattle.std.proofs.Common.{◌≡◌, ℕ, zero, suc, ◌+◌, ◌-◌, ◌<◌, ◌≤◌, min, Bool, true, false, List, ◌∷◌, length, ℤ, Ok, Err, refl, ap, add-one, arith}
 use native.Mathlib.Nat.{sub-zero}
 use Rattle.table.specs.Description.{Description, map_at}
 use Rattle.rules.specs.declared.faults.Failure.{Failure}
 use Rattle.rules.specs.declared.steps.Got.{Got}
 use Rattle.rules.specs.declared.lines.ReadLine.{ReadLine}
 use Rattle.rules.specs.declared.lines.UseLine.{UseLine}
-use Rattle.rules.specs.Trace.{Run, out, pass, stop, done, bind, bind_assoc}
-use Rattle.rules.specs.Checks.{Check, attempt, fault, pick}
+use Rattle.rules.specs.Trace.{out, pass, stop, bind, bind_assoc}
+use Rattle.rules.specs.Checks.{attempt, fault}
 use Rattle.rules.specs.Lookups.{map_output}
-use Rattle.rules.specs.Values.{Names, is_zero}
+use Rattle.rules.specs.Values.{is_zero}
 use Rattle.rules.specs.Steps.{natural, mapped}
-use Rattle.rules.specs.Code.{Code, finish, read, assign, map_read, use_of, branch, while, code}
-use Rattle.rules.specs.Reading.{State, Object, Objects, valued, counted, elements, objects, objects_to_end, used, rounds, run, write, after_read, value_item}
+use Rattle.rules.specs.Code.{Code, finish, read, assign, map_read, use_of, code}
+use Rattle.rules.specs.Reading.{Object, Objects, valued, counted, elements, objects, objects_to_end, used, run, write, value_item}
 use Rattle.objects.specs.declared.frame.Frame.{Frame}
-use Rattle.objects.specs.declared.frame.Frame.TheVariants.{Lines, Rounds, Elements, Counted, Uncounted}
+use Rattle.objects.specs.declared.frame.Frame.TheVariants.{Lines, Elements, Counted, Uncounted}
 use Rattle.objects.specs.Ahead.{Inner, onto, with_names, state, frame_run, content_run, inner_run, code_run, height, wants, Fit, Room}
-use Rattle.objects.specs.Moves.{Quietly, Gives, Refuses, following, if_code, while_code}
+use Rattle.objects.specs.Moves.{following, if_code}
 
 -- the lines after a line, as a frame
 pub lines_fit : (d : Description) (line after : ℕ) (fs : List Frame) → Room d (following d line after) fs → Fit d (Lines (line + 1) after ∷ fs)

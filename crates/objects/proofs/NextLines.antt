@@ -1,14 +1,13 @@
 -- The next of some lines, and what lies ahead.
-use Rattle.std.proofs.Common.{◌≡◌, ℕ, suc, ◌+◌, ◌≤◌, Bool, List, [], ◌∷◌, length, sym, refl, ap, ◌∙◌, subst}
+use Rattle.std.proofs.Common.{◌≡◌, ℕ, suc, ◌+◌, ◌≤◌, Bool, List, ◌∷◌, length, ap, subst}
 use Rattle.records.specs.declared.statements.Statement.{Statement}
 use Rattle.table.specs.Description.{Description, statement_at}
-use Rattle.rules.specs.Trace.{Run, pass, bind, done}
-use Rattle.rules.specs.Code.{Code, finish, coded, code, written}
-use Rattle.rules.specs.Reading.{State, Object, Objects, run}
+use Rattle.rules.specs.Code.{Code, code, written}
+use Rattle.rules.specs.Reading.{Object, Objects}
 use Rattle.objects.specs.declared.frame.Frame.{Frame}
 use Rattle.objects.specs.declared.frame.Frame.TheVariants.{Lines}
 use Rattle.objects.specs.Upcoming.{IsNext}
-use Rattle.objects.specs.Ahead.{Inner, onto, state, frame_run, content_run, inner_run, code_run, height, wants, Fit, Room, Readable}
+use Rattle.objects.specs.Ahead.{Inner, onto, frame_run, content_run, inner_run, code_run, height, wants, Fit, Room, Readable}
 
 module _ (d : Description) (at count : ℕ) (k : Code) (e : code d.lines at count ≡ k) where
   pub lines_run : (bits : List Bool) (o : Object) (c : Inner) (p : ℕ) (obj : Objects)

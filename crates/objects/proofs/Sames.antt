@@ -1,5 +1,5 @@
 -- From what the lemmas say to what the calls left.
-use Rattle.std.proofs.Common.{◌≡◌, ℕ, ◌<◌, Bool, List, ◌∷◌, length, sym, ap, subst, arith}
+use Rattle.std.proofs.Common.{◌≡◌, ℕ, ◌<◌, Bool, List, ◌∷◌, length, sym, subst, arith}
 use Rattle.table.specs.Description.{Description}
 use Rattle.rules.specs.declared.items.Item.{Item}
 use Rattle.rules.specs.declared.lines.UseLine.{UseLine}

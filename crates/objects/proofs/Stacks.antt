@@ -1,5 +1,5 @@
 -- A stack in a fixed room, through what is done to the room.
-use Rattle.std.proofs.Common.{◌≡◌, ℕ, zero, suc, ◌+◌, ◌-◌, ◌<◌, ◌≤◌, min, ◌≢◌, List, [], ◌∷◌, length, get_or, set, sym, refl, ap, ◌∙◌, ap₂, add-one, arith, get_or-set_other, get_or-set_same}
+use Rattle.std.proofs.Common.{◌≡◌, ℕ, zero, suc, ◌+◌, ◌<◌, ◌≤◌, min, ◌≢◌, List, [], ◌∷◌, length, get_or, set, refl, ap, ap₂, arith, get_or-set_other, get_or-set_same}
 use Rattle.objects.specs.Tops.{tops}
 
 module _ {A : Type 0} (none : A) where

@@ -1,5 +1,5 @@
 -- What lies ahead inside an open object, by what it still has to do.
-use Rattle.std.specs.Prelude.{ℕ, zero, suc, ◌+◌, ◌-◌, ◌≤◌, max, Bool, List, [], ◌∷◌, length, drop}
+use Rattle.std.specs.Prelude.{ℕ, suc, ◌+◌, ◌-◌, ◌≤◌, max, Bool, List, [], ◌∷◌, length, drop}
 use Rattle.table.specs.Description.{Description, class_at, extension_at, map_at, statement_at}
 use Rattle.rules.specs.Trace.{Run, bind}
 use Rattle.rules.specs.Values.{Names}

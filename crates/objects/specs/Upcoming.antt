@@ -5,7 +5,7 @@ use Rattle.records.specs.declared.statements.Statement.{Statement}
 use Rattle.records.specs.declared.statements.Statement.TheVariants.{Read, Assign, MapRead, Use, If, While, Unknown}
 use Rattle.records.specs.Statements.{statement}
 use Rattle.table.specs.Description.{entry, no_line}
-use Rattle.rules.specs.Code.{Code, finish, coded, code}
+use Rattle.rules.specs.Code.{finish, coded, code}
 use Rattle.objects.specs.declared.upcoming.Upcoming.{Upcoming}
 use Rattle.objects.specs.declared.upcoming.Upcoming.TheVariants.{NoLine, Next}
 

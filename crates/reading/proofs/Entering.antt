@@ -13,17 +13,16 @@ use Rattle.rules.specs.Trace.{Run, out, pass, stop, done, bind, bind_assoc}
 use Rattle.rules.specs.Checks.{attempt, ensure, fault}
 use Rattle.rules.specs.Lookups.{greatest, object_class}
 use Rattle.rules.specs.Steps.{header}
-use Rattle.rules.specs.Values.{Names}
-use Rattle.rules.specs.Reading.{State, Object, Objects, write, moved, open_item, close_item, content, inner, closed, opened, object, all_zero, after_object}
+use Rattle.rules.specs.Reading.{State, Object, Objects, write, open_item, close_item, content, inner, closed, opened, object, all_zero, after_object}
 use Rattle.values.specs.Names.{named_by}
 use Rattle.objects.specs.declared.inside.About.{About}
 use Rattle.objects.specs.declared.inside.Inside.{Inside}
 use Rattle.objects.specs.Frames.{frames}
-use Rattle.objects.specs.Ahead.{Inner, inner_of, inner_run, content_run, object_of, state, with_names, Fit}
+use Rattle.objects.specs.Ahead.{Inner, inner_of, inner_run, content_run, object_of, state, with_names}
 use Rattle.objects.specs.Starts.{Begun}
 use Rattle.reading.specs.declared.open_object.OpenObject.{OpenObject}
 use Rattle.reading.specs.Pushes.{after_content}
-use Rattle.reading.specs.Walks.{capped, seen, names_of, received, rest_from, rest, beginning}
+use Rattle.reading.specs.Walks.{capped, seen, received, rest_from, rest, beginning}
 
 -- a window that lies in the source is not cut
 pub uncut : (n : ℕ) (w : Window) → w.end ≤ n → capped n w ≡ w

@@ -1,8 +1,8 @@
 -- A description without a fault is one that a reading can go by.
-use Rattle.std.proofs.Common.{◌≡◌, ℕ, zero, suc, ◌+◌, ◌-◌, ◌*◌, ◌<◌, ◌≤◌, min, max, Bool, true, false, cond, not, ◌&&◌, eqb, ltb, leb, ◌⊎◌, List, [], length, None, sym, refl, ap, ◌∙◌, subst, subst₂, inl, inr, arith, leb-true}
+use Rattle.std.proofs.Common.{◌≡◌, ℕ, zero, suc, ◌+◌, ◌-◌, ◌*◌, ◌<◌, ◌≤◌, min, true, not, ◌&&◌, eqb, ltb, leb, ◌⊎◌, List, length, None, sym, refl, ap, ◌∙◌, subst, subst₂, inl, inr, arith, leb-true}
 use native.Mathlib.Decide.{dec_le}
 use lib.ListN.{get_or-eq_default}
-use Rattle.std.proofs.lemmas.Bool.{cases_Bool, not-false, and_parts}
+use Rattle.std.proofs.lemmas.Bool.{not-false, and_parts}
 use Rattle.std.proofs.lemmas.Bool.Decides.{nat_tests}
 use Rattle.records.specs.declared.counts.Counts.{Counts}
 use Rattle.records.specs.declared.records.Class.{Class}
@@ -17,7 +17,7 @@ use Rattle.fields.specs.Tables.{class_fine, map_fine, base_fine, abstract_fine}
 use Rattle.fields.specs.Values.{one_to_sixteen}
 use Rattle.table.specs.Description.{Description, entry, class_at, extension_at, map_at, line_at, statement_at, counts_of, no_class, no_extension, no_map, no_line}
 use Rattle.table.specs.Limits.{within_limits}
-use Rattle.rules.specs.Code.{Code, finish, coded, code, written}
+use Rattle.rules.specs.Code.{coded, code, written}
 use Rattle.blocks.specs.Nesting.{has_blocks, in_first, in_second, taken, block_sound, line_sound}
 use Rattle.blocks.proofs.Steps.{sound_step}
 use Rattle.checked.specs.Check.{first_fault}

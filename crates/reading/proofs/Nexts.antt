@@ -1,5 +1,5 @@
 -- What a reading hands out, from what lies ahead.
-use Rattle.std.proofs.Common.{◌≡◌, ℕ, suc, ◌<◌, Some, None, Ok, Err, Option, Result, sym, refl, ap, ◌∙◌, subst, arith}
+use Rattle.std.proofs.Common.{◌≡◌, ◌<◌, Some, None, Ok, Err, Option, Result, sym, refl, ap, subst, arith}
 use Rattle.rules.specs.declared.items.Item.{Item}
 use Rattle.rules.specs.declared.faults.ReadingFault.{ReadingFault}
 use Rattle.rules.specs.Trace.{Run, out, pass, stop, done}

@@ -1,5 +1,5 @@
 -- The facts that a reading keeps are propositions.
-use Rattle.std.proofs.Common.{◌≡◌, List, [], ◌∷◌}
+use Rattle.std.proofs.Common.{List, [], ◌∷◌}
 use mathlib.Core.HLevel.{Unit-prop, ×_prop, ×₃_prop, Π_prop}
 use mathlib.Core.Logic.{∥∥₁_elim}
 use native.Mathlib.Bridge.{le_prop}

@@ -1,22 +1,22 @@
 -- A step inside the innermost object is a step of the reading.
-use Rattle.std.proofs.Common.{◌≡◌, ℕ, suc, ◌<◌, ◌≤◌, min, Bool, true, List, [], ◌∷◌, length, get_or, set, sym, refl, ap, ◌∙◌, subst, ap₂, arith, get_or-set_same}
+use Rattle.std.proofs.Common.{◌≡◌, ℕ, suc, ◌<◌, ◌≤◌, min, Bool, true, List, ◌∷◌, length, get_or, set, sym, refl, ap, ◌∙◌, subst, arith, get_or-set_same}
 use Rattle.table.specs.Description.{Description}
 use Rattle.rules.specs.declared.faults.ReadingFault.{ReadingFault}
 use Rattle.rules.specs.declared.items.Item.{Item}
 use Rattle.rules.specs.declared.lines.UseLine.{UseLine}
 use Rattle.rules.specs.declared.steps.Window.{Window}
-use Rattle.rules.specs.Trace.{Run, out, pass, stop, done}
+use Rattle.rules.specs.Trace.{Run, out, pass}
 use Rattle.rules.specs.Reading.{State, Objects}
 use Rattle.objects.specs.declared.inside.About.{About}
 use Rattle.objects.specs.declared.inside.Inside.{Inside}
 use Rattle.objects.specs.Frames.{frames}
-use Rattle.objects.specs.Ahead.{Inner, inner_of, inner_run, object_of, state, Fit}
+use Rattle.objects.specs.Ahead.{inner_of, inner_run, object_of, state, Fit}
 use Rattle.objects.specs.Moves as moves
 use Rattle.objects.proofs.Stacks.{tops_set}
 use Rattle.reading.specs.declared.open_object.OpenObject.{OpenObject}
 use Rattle.reading.specs.declared.walk.Walk.{Walk}
 use Rattle.reading.specs.Pushes.{around, after_content, Leaving}
-use Rattle.reading.specs.Walks.{no_object, objects_of, capped, seen, rest, beginning, walk_ahead, AllFit, Sound, Quietly, Gives, Refuses}
+use Rattle.reading.specs.Walks.{no_object, objects_of, capped, seen, beginning, walk_ahead, AllFit, Sound, Quietly, Gives, Refuses}
 use Rattle.reading.proofs.Entering.{within_others, rest_is, quiet_in, gives_in, refuses_in, begins_in, leaves_in}
 use Rattle.reading.proofs.Stepping.{innermost, ahead_of, changed-objects, sound_all, sound_near, sound_from, all_head, all_cons}
 

@@ -1,5 +1,5 @@
 -- What lies ahead of a reading, by its open objects.
-use Rattle.std.specs.Prelude.{◌≡◌, ℕ, zero, suc, ◌-◌, ◌≤◌, min, Bool, true, false, cond, List, [], ◌∷◌, length}
+use Rattle.std.specs.Prelude.{◌≡◌, ℕ, ◌-◌, ◌≤◌, min, Bool, false, cond, List, [], ◌∷◌, length}
 use Rattle.table.specs.Description.{Description}
 use Rattle.rules.specs.declared.faults.ReadingFault.{ReadingFault}
 use Rattle.rules.specs.declared.items.Item.{Item}
@@ -8,7 +8,7 @@ use Rattle.rules.specs.Trace.{Run, out, pass, stop, done, bind}
 use Rattle.rules.specs.Checks.{attempt}
 use Rattle.rules.specs.Steps.{at_end}
 use Rattle.rules.specs.Values.{Names}
-use Rattle.rules.specs.Reading.{State, Object, write, all_zero, close_item, closed, object, reading}
+use Rattle.rules.specs.Reading.{State, write, all_zero, close_item, closed, object, reading}
 use Rattle.values.specs.Names.{named_by}
 use Rattle.objects.specs.declared.inside.About.{About}
 use Rattle.objects.specs.Tops.{tops}

@@ -7,7 +7,7 @@ use Rattle.rules.specs.Trace.{Run, out, pass, done, bind}
 use Rattle.rules.specs.Checks.{Check, then, ensure, pick, attempt}
 use Rattle.table.specs.Description.{Description, class_at, line_at, map_at}
 use Rattle.rules.specs.Lookups.{greatest, object_class, map_output}
-use Rattle.rules.specs.Values.{value, is_zero}
+use Rattle.rules.specs.Values.{is_zero}
 use Rattle.bits.specs.Bits.{number, bits_of, length-bits_of}
 use Rattle.rules.specs.declared.steps.Window.{Window}
 use Rattle.rules.specs.declared.steps.Got.{Got}

@@ -11,7 +11,7 @@ use Rattle.rules.specs.Trace.{Run, out, pass, stop, done, bind}
 use Rattle.rules.specs.Checks.{Check, ensure, pick, attempt}
 use Rattle.table.specs.Description.{Description, class_at, map_at}
 use Rattle.rules.specs.Lookups.{greatest, object_class}
-use Rattle.rules.specs.Values.{value, is_zero}
+use Rattle.rules.specs.Values.{is_zero}
 use Rattle.bits.specs.Bits.{bit_value, number, part, length-bits_of}
 use Rattle.rules.specs.declared.steps.Window.{Window}
 use Rattle.rules.specs.declared.steps.Got.{Got}

@@ -4,7 +4,6 @@ use Rattle.records.specs.declared.records.Extension.{Extension}
 use Rattle.rules.specs.Trace.{Run}
 use Rattle.rules.specs.Checks.{Check}
 use Rattle.table.specs.Description.{Description}
-use Rattle.rules.specs.Lookups.{greatest}
 use Rattle.rules.specs.Values.{Names, is_zero}
 use Rattle.rules.specs.declared.steps.Header.{Header}
 use Rattle.rules.specs.declared.steps.Window.{Window}

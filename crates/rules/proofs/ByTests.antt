@@ -9,7 +9,6 @@ use Rattle.records.specs.declared.records.Map.{Map}
 use Rattle.records.specs.declared.records.Row.{Row}
 use Rattle.records.specs.Classes.{is_member}
 use Rattle.table.specs.Description.{Description, entry, no_line, class_at, line_at}
-use Rattle.rules.specs.Lookups.{greatest}
 use Rattle.records.specs.Statements.{statement}
 use Rattle.rules.specs.Code.{written}
 use Rattle.rules.specs.Growth.{Begins, Grown}

@@ -5,7 +5,7 @@ use Rattle.rules.specs.Checks.{Check}
 use Rattle.records.specs.Classes.{is_base}
 use Rattle.table.specs.Description.{Description, class_at}
 use Rattle.rules.specs.Lookups.{greatest}
-use Rattle.rules.specs.Values.{Names, is_zero, value}
+use Rattle.rules.specs.Values.{Names, is_zero}
 use Rattle.rules.specs.declared.steps.Window.{Window}
 use Rattle.rules.specs.Steps.{element, mapped, natural, next_multiple}
 use Rattle.records.specs.declared.statements.Statement.{Statement}

@@ -6,7 +6,6 @@ use Rattle.records.specs.declared.records.Class.{Class}
 use Rattle.table.specs.Description.{Description, no_class, class_at}
 use Rattle.places.specs.Classes.{ids_fit, plain_wrong, base_wrong, member_wrong, class_wrong}
 use Rattle.checked.proofs.Held.{faultless}
-use Rattle.rules.specs.Lookups.{greatest}
 use Rattle.rules.specs.Order.{BytesLaw}
 use Rattle.rules.proofs.Entries.{entry_past, entry_none}
 

@@ -1,7 +1,5 @@
 -- A map read: the row with an index, and the steps of the read.
-use Rattle.std.proofs.Common.{◌≡◌, ℕ, zero, suc, ◌+◌, ◌-◌, ◌<◌, ◌≤◌, Bool, true, false, eqb, List, ℤ, Ok, Err, sym, refl, ap, ◌∙◌, add-zero, add-suc, add-one, sub-one, arith, eq-eqb, ne_eqb}
-use native.Mathlib.Nat.{sub-zero}
-use Rattle.records.specs.declared.records.Row.{Row}
+use Rattle.std.proofs.Common.{◌≡◌, ℕ, zero, suc, ◌+◌, ◌-◌, ◌<◌, Bool, eqb, List, ℤ, Ok, Err, ◌∙◌, add-one, sub-one, arith, eq-eqb, ne_eqb}
 use Rattle.table.specs.Description.{Description, row_at}
 use Rattle.rules.specs.declared.faults.Failure.{Failure}
 use Rattle.rules.specs.declared.faults.ReadingCause.TheVariants.{NoSuchIndex}

@@ -1,5 +1,5 @@
 -- Widths and counts.
-use Rattle.std.proofs.Common.{◌≡◌, ℕ, ◌≤◌, Bool, true, false, ◌&&◌, ℤ, pos, negsuc, nat_abs, Ok, Err, arith}
+use Rattle.std.proofs.Common.{◌≡◌, ℕ, ◌≤◌, true, false, ◌&&◌, ℤ, pos, negsuc, nat_abs, Ok, arith}
 use lib.Signed.{le_z}
 use Rattle.std.proofs.lemmas.Int.{ints}
 use Rattle.rules.specs.declared.faults.ReadingCause.TheVariants.{WidthOrCount}

@@ -1,5 +1,5 @@
 -- The size bytes of an object.
-use Rattle.std.proofs.Common.{◌≡◌, ℕ, zero, suc, ◌+◌, ◌-◌, ◌*◌, ◌%◌, ◌^◌, ◌<◌, ◌≤◌, Bool, true, false, cond, eqb, ltb, leb, List, Ok, Err, sym, refl, ap, ◌∙◌, mul-le-mul_right, mul_assoc, le-mul_of_pos_right, sub-one, arith, lit<, le-ltb, lt-ltb, le-leb}
+use Rattle.std.proofs.Common.{◌≡◌, ℕ, zero, suc, ◌+◌, ◌-◌, ◌*◌, ◌%◌, ◌^◌, ◌<◌, ◌≤◌, Bool, cond, eqb, ltb, leb, List, Ok, Err, sym, refl, ◌∙◌, mul-le-mul_right, mul_assoc, le-mul_of_pos_right, sub-one, arith, lit<, le-ltb, lt-ltb, le-leb}
 use native.Mathlib.Nat.{pow-succ', pow-le-pow_right}
 use borrow.Author.Tests.{lt-leb}
 use Rattle.records.specs.declared.records.Class.{Class}

@@ -1,8 +1,7 @@
 -- What the steps that take bits come to.
-use Rattle.std.proofs.Common.{◌≡◌, ℕ, ◌+◌, ◌-◌, ◌<◌, ◌≤◌, Bool, true, false, cond, eqb, leb, List, length, Ok, Err, sym, refl, ap, ◌∙◌, arith, le-leb}
+use Rattle.std.proofs.Common.{◌≡◌, ℕ, ◌+◌, ◌-◌, ◌<◌, ◌≤◌, Bool, true, false, List, Ok, Err, sym, ◌∙◌, arith, le-leb}
 use Rattle.std.proofs.lemmas.Bool.Decides.{nat_tests}
 use borrow.Author.Tests.{lt-leb}
-use Rattle.bits.specs.declared.refusal.Refusal.TheVariants.{PastEnd}
 use Rattle.bits.specs.Bits.{number, part}
 use Rattle.bits.specs.Zero.{all_zero, zero_answer}
 use Rattle.bits.proofs.Zeros.{zero_number}

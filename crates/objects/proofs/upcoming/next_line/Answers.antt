@@ -1,4 +1,4 @@
-use Rattle.std.proofs.Common.{◌≡◌, sym, ap, ◌∙◌, arith}
+use Rattle.std.proofs.Common.{sym, ap, ◌∙◌, arith}
 use Rattle.records.specs.Statements.{statement}
 use Rattle.objects.proofs.Codes.{code_none, code-past, known_of, line_passed, line_next}
 use Rattle.objects.proofs.upcoming.next_line.Goals as goal

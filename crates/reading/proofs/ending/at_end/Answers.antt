@@ -1,4 +1,4 @@
-use Rattle.std.proofs.Common.{◌≡◌, ◌-◌, ◌<◌, ◌≤◌, true, length, sym, ap, ◌∙◌, subst, arith}
+use Rattle.std.proofs.Common.{◌≡◌, ◌-◌, length, subst, arith}
 use Rattle.bits.specs.Zero.{all_zero}
 use Rattle.bits.specs.Bits.{part}
 use Rattle.steps.proofs.Takes.{zero_told}

@@ -1,5 +1,4 @@
-use Rattle.std.proofs.Common.{◌≡◌, ◌-◌, ◌<◌, ◌≤◌, Ok, Err, sym, ap, ◌∙◌, arith}
-use Rattle.rules.specs.Steps.{next_multiple}
+use Rattle.std.proofs.Common.{◌-◌, Ok, Err, sym, ap, ◌∙◌}
 use Rattle.steps.proofs.Takes.{zero_told, aligned_short, aligned_zero, aligned-set}
 use Rattle.steps.proofs.bits_taken.aligned.Goals as goal
 

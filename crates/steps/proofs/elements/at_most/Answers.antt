@@ -1,5 +1,4 @@
-use Rattle.std.proofs.Common.{◌≡◌, true, false, arith, to_z-of_z, w64, SFits, rules}
-use lib.Signed.{lt_z}
+use Rattle.std.proofs.Common.{arith, to_z-of_z, w64, SFits, rules}
 use Rattle.std.proofs.lemmas.Result.{err_from_is_err_and}
 use Rattle.rules.specs.Values.{value}
 use Rattle.values.specs.Names.{named_by}

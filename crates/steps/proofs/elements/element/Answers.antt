@@ -1,6 +1,5 @@
-use Rattle.std.proofs.Common.{◌≡◌, pos, Ok, Err, sym, ap, ◌∙◌, arith, to_z-of_z, w64, SFits, rules}
+use Rattle.std.proofs.Common.{arith, to_z-of_z, w64, SFits, rules}
 use Rattle.std.proofs.lemmas.Result.{err_from_is_err_and}
-use Rattle.rules.specs.Steps.{natural}
 use Rattle.rules.specs.Values.{value}
 use Rattle.values.specs.Names.{named_by}
 use Rattle.steps.proofs.Read.{element_unaligned, element_no_width, element_bad_width, element_no_bits, element_low, element_high, element_got}

@@ -1,4 +1,4 @@
-use Rattle.std.proofs.Common.{◌≡◌, ◌+◌, ◌*◌, ◌%◌, ◌<◌, ◌≤◌, Ok, Err, sym, ap, ◌∙◌, arith, rules}
+use Rattle.std.proofs.Common.{◌%◌, ◌<◌, ◌≤◌, sym, ◌∙◌, arith, rules}
 use Rattle.std.proofs.lemmas.Result.{err_from_is_err_and, IfOk-weaker}
 use Rattle.steps.proofs.Sizes.{size_none, size_fails, size_ends, size_goes, room_here, room_after}
 use Rattle.steps.proofs.headers.+size_bytes.Goals as goal

@@ -1,4 +1,4 @@
-use Rattle.std.proofs.Common.{◌≡◌, Ok, Err, sym, ap, ◌∙◌, arith}
+use Rattle.std.proofs.Common.{sym, arith}
 use Rattle.std.proofs.lemmas.Result.{err_from_is_err_and}
 use Rattle.steps.proofs.Sizes.{sized_none, sized_fails, sized_large, sized_past, sized_fits}
 use Rattle.steps.proofs.headers.sized.Goals as goal

@@ -1,6 +1,6 @@
-use Rattle.std.proofs.Common.{◌≡◌, ◌+◌, ◌-◌, Ok, Err, sym, ap, ◌∙◌, arith, to_z-of_z, w64, SFits, rules}
+use Rattle.std.proofs.Common.{◌≡◌, ◌+◌, ◌-◌, Ok, sym, ap, ◌∙◌, arith, to_z-of_z, w64, SFits, rules}
 use Rattle.records.specs.declared.records.Row.{Row}
-use Rattle.table.specs.Description.{Description, entry, no_row, row_at}
+use Rattle.table.specs.Description.{entry, no_row, row_at}
 use Rattle.rules.specs.Lookups.{output, find_row}
 use Rattle.steps.proofs.MapRead.{no_row_left, row_found, row_passed}
 use Rattle.steps.proofs.maps.find_row.Goals as goal

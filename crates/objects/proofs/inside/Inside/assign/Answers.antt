@@ -1,4 +1,4 @@
-use Rattle.std.proofs.Common.{◌≡◌, List, ◌∷◌, sym, ap, ◌∙◌, to_z-of_z, w64, SFits, rules}
+use Rattle.std.proofs.Common.{◌∷◌, sym, ap, ◌∙◌, to_z-of_z, w64, SFits, rules}
 use Rattle.table.specs.Description.{description}
 use Rattle.rules.specs.Trace.{stop}
 use Rattle.objects.specs.declared.frame.Frame.{Frame}

@@ -1,14 +1,11 @@
-use Rattle.std.proofs.Common.{◌≡◌, ℕ, ◌+◌, ◌-◌, ◌<◌, ◌≤◌, min, ◌⊎◌, List, [], ◌∷◌, sym, refl, ap, ◌∙◌, subst, inl, inr, arith}
+use Rattle.std.proofs.Common.{◌+◌, ◌-◌, [], ◌∷◌, sym, refl, ap, ◌∙◌, subst, arith}
 use Rattle.table.specs.Description.{description}
-use Rattle.rules.specs.Trace.{stop, out}
-use Rattle.objects.specs.declared.frame.Frame.{Frame}
-use Rattle.objects.specs.declared.frame.Frame.TheVariants.{Lines, Rounds, Elements, Counted, Uncounted}
+use Rattle.objects.specs.declared.frame.Frame.TheVariants.{Lines, Rounds}
 use Rattle.objects.specs.Frames.{frames}
 use Rattle.objects.specs.Ahead.{inner_of, object_of}
-use Rattle.objects.specs.Moves.{Moved}
-use Rattle.objects.specs.Ahead.{Fit, Inner, inner_run, onto}
+use Rattle.objects.specs.Ahead.{Fit, Inner, inner_run}
 use Rattle.objects.proofs.FrameRuns.{while_run, while_room, moved_from}
-use Rattle.objects.proofs.Sames.{same-inner, room_two, fit_under}
+use Rattle.objects.proofs.Sames.{same-inner, room_two}
 use Rattle.objects.proofs.inside.Inside.begin_rounds.Goals as goal
 
 pub push-requires : goal.push-requires

@@ -1,14 +1,12 @@
-use Rattle.std.proofs.Common.{◌≡◌, ◌≤◌, List, [], ◌∷◌, length, sym, refl, ap, ◌∙◌, subst, arith}
+use Rattle.std.proofs.Common.{◌≡◌, ◌≤◌, List, [], ◌∷◌, length, sym, ap, ◌∙◌, subst, arith}
 use Rattle.records.specs.declared.records.Class.{Class}
 use Rattle.records.specs.declared.records.Extension.{Extension}
 use Rattle.table.specs.Description.{description, entry, no_class, class_at}
 use Rattle.objects.specs.declared.frame.Frame.TheVariants.{Lines}
-use Rattle.objects.specs.declared.frame.Frame.{Frame}
 use Rattle.objects.specs.Frames.{frames}
 use Rattle.objects.specs.Ahead.{Inner, inner_of}
 use Rattle.objects.specs.Starts.{Begun}
 use Rattle.objects.proofs.Begins.{begun_none, begun_some}
-use Rattle.objects.proofs.Sames.{same-inner}
 use Rattle.objects.proofs.inside.Inside.begun.Goals as goal
 
 pub returns-then-class-eq0 : goal.returns-then-class-eq0

@@ -1,8 +1,7 @@
-use Rattle.std.proofs.Common.{◌≡◌, ℕ, ◌+◌, ◌-◌, ◌<◌, ◌≤◌, min, ◌⊎◌, List, [], ◌∷◌, sym, refl, ap, ◌∙◌, inl, inr, arith, to_z-of_z, w64, SFits, rules}
+use Rattle.std.proofs.Common.{◌+◌, ◌-◌, min, [], ◌∷◌, sym, refl, ap, ◌∙◌, to_z-of_z, w64, SFits, rules}
 use Rattle.table.specs.Description.{description}
-use Rattle.rules.specs.Trace.{stop, out}
-use Rattle.objects.specs.declared.frame.Frame.{Frame}
-use Rattle.objects.specs.declared.frame.Frame.TheVariants.{Lines, Rounds, Elements, Counted, Uncounted}
+use Rattle.rules.specs.Trace.{stop}
+use Rattle.objects.specs.declared.frame.Frame.TheVariants.{Lines}
 use Rattle.objects.specs.Frames.{frames}
 use Rattle.objects.specs.Ahead.{inner_of, object_of}
 use Rattle.objects.proofs.LineRuns.{branch_fails, branch_first, branch_second, first_room, second_room}

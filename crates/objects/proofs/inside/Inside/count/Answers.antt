@@ -1,4 +1,4 @@
-use Rattle.std.proofs.Common.{◌≡◌, sym, ap, ◌∙◌, to_z-of_z, w64, SFits, rules}
+use Rattle.std.proofs.Common.{ap}
 use Rattle.rules.specs.Checks.{then}
 use Rattle.rules.specs.Steps.{natural}
 use Rattle.objects.proofs.inside.Inside.count.Goals as goal

@@ -1,6 +1,6 @@
-use Rattle.std.proofs.Common.{◌≡◌, sym, refl, ap, ◌∙◌, arith}
+use Rattle.std.proofs.Common.{sym, ◌∙◌, arith}
 use Rattle.table.specs.Description.{description}
-use Rattle.objects.specs.Ahead.{inner_of, object_of, state}
+use Rattle.objects.specs.Ahead.{inner_of, object_of}
 use Rattle.objects.proofs.LineRuns.{counted_none, counted_some}
 use Rattle.objects.proofs.inside.Inside.count_or_one.Goals as goal
 

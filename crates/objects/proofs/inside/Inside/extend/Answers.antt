@@ -1,14 +1,9 @@
-use Rattle.std.proofs.Common.{◌≡◌, ℕ, ◌+◌, ◌-◌, ◌<◌, ◌≤◌, min, true, false, eqb, List, [], ◌∷◌, length, sym, refl, ap, ◌∙◌, subst, arith}
-use Rattle.records.specs.declared.records.Line.{Line}
-use Rattle.records.specs.declared.statements.Statement.{Statement}
+use Rattle.std.proofs.Common.{◌≡◌, ◌+◌, ◌<◌, ◌≤◌, true, false, eqb, List, [], ◌∷◌, length, sym, refl, ap, ◌∙◌, subst, arith}
 use Rattle.table.specs.Description.{Description, description}
-use Rattle.rules.specs.Code.{coded, code, written}
-use Rattle.rules.specs.Trace.{stop, out}
+use Rattle.rules.specs.Trace.{stop}
 use Rattle.objects.specs.declared.frame.Frame.{Frame}
-use Rattle.objects.specs.declared.frame.Frame.TheVariants.{Lines, Rounds, Elements, Counted, Uncounted}
-use Rattle.objects.specs.Frames.{frames}
-use Rattle.objects.specs.Ahead.{inner_of, object_of, Room}
-use Rattle.objects.specs.Moves.{CodeMoved}
+use Rattle.objects.specs.declared.frame.Frame.TheVariants.{Lines}
+use Rattle.objects.specs.Ahead.{inner_of, object_of}
 use Rattle.objects.proofs.FrameRuns.{no_extension_left, other_extension, extension_fails, extensions_end, extension_begins, extension_room}
 use Rattle.objects.proofs.Sames.{same-inner, quietly_at}
 use Rattle.std.proofs.lemmas.Bool.Decides.{nat_tests}

@@ -1,14 +1,9 @@
-use Rattle.std.proofs.Common.{◌≡◌, ℕ, ◌+◌, ◌-◌, ◌<◌, ◌≤◌, min, List, [], ◌∷◌, sym, refl, ap, ◌∙◌, subst, arith}
+use Rattle.std.proofs.Common.{◌≡◌, List, ◌∙◌, subst}
 use Rattle.records.specs.declared.records.Line.{Line}
-use Rattle.records.specs.declared.statements.Statement.{Statement}
 use Rattle.table.specs.Description.{description}
-use Rattle.rules.specs.Code.{coded, code, written}
-use Rattle.rules.specs.Trace.{stop, out}
-use Rattle.objects.specs.declared.frame.Frame.{Frame}
-use Rattle.objects.specs.declared.frame.Frame.TheVariants.{Lines, Rounds, Elements, Counted, Uncounted}
+use Rattle.rules.specs.Code.{code}
 use Rattle.objects.specs.Frames.{frames}
-use Rattle.objects.specs.Ahead.{inner_of, object_of, Room}
-use Rattle.objects.specs.Moves.{CodeMoved}
+use Rattle.objects.specs.Ahead.{inner_of, object_of}
 use Rattle.rules.specs.Code.{finish}
 use Rattle.objects.specs.Upcoming.{IsNext}
 use Rattle.objects.proofs.FrameRuns.{moved_from}

@@ -1,9 +1,8 @@
-use Rattle.std.proofs.Common.{◌≡◌, ◌+◌, List, ◌∷◌, sym, ap, ◌∙◌, arith, to_z-of_z, w64, SFits, rules}
+use Rattle.std.proofs.Common.{◌+◌, ◌∷◌, sym, ap, ◌∙◌, arith, to_z-of_z, w64, SFits, rules}
 use Rattle.table.specs.Description.{description}
 use Rattle.rules.specs.declared.items.Item.{Item}
 use Rattle.rules.specs.Trace.{stop, out}
 use Rattle.rules.specs.Reading.{write}
-use Rattle.values.specs.Names.{named_by}
 use Rattle.objects.specs.declared.frame.Frame.{Frame}
 use Rattle.objects.specs.declared.frame.Frame.TheVariants.{Lines}
 use Rattle.objects.specs.Frames.{frames}

@@ -1,9 +1,6 @@
-use Rattle.std.proofs.Common.{◌≡◌, ℕ, ◌+◌, ◌-◌, ◌<◌, ◌≤◌, min, ◌⊎◌, List, [], ◌∷◌, sym, refl, ap, ◌∙◌, inl, inr, arith}
+use Rattle.std.proofs.Common.{refl, arith}
 use Rattle.table.specs.Description.{description}
-use Rattle.rules.specs.Trace.{stop, out}
-use Rattle.objects.specs.declared.frame.Frame.{Frame}
-use Rattle.objects.specs.declared.frame.Frame.TheVariants.{Lines, Rounds, Elements, Counted, Uncounted}
-use Rattle.objects.specs.Frames.{frames}
+use Rattle.objects.specs.declared.frame.Frame.TheVariants.{Counted}
 use Rattle.objects.specs.Ahead.{inner_of, object_of}
 use Rattle.objects.proofs.FrameRuns.{counted_end, counted_begins, counted_room, counted_name}
 use Rattle.objects.proofs.Sames.{same-inner, begins_at, room_under, fit_under}

@@ -1,9 +1,7 @@
-use Rattle.std.proofs.Common.{◌≡◌, ℕ, ◌+◌, ◌-◌, ◌<◌, ◌≤◌, min, ◌⊎◌, List, [], ◌∷◌, sym, refl, ap, ◌∙◌, inl, inr, arith, to_z-of_z, w64, SFits, rules}
+use Rattle.std.proofs.Common.{◌+◌, sym, refl, ap, ◌∙◌, arith, to_z-of_z, w64, SFits, rules}
 use Rattle.table.specs.Description.{description}
 use Rattle.rules.specs.Trace.{stop, out}
-use Rattle.objects.specs.declared.frame.Frame.{Frame}
-use Rattle.objects.specs.declared.frame.Frame.TheVariants.{Lines, Rounds, Elements, Counted, Uncounted}
-use Rattle.objects.specs.Frames.{frames}
+use Rattle.objects.specs.declared.frame.Frame.TheVariants.{Elements}
 use Rattle.objects.specs.Ahead.{inner_of, object_of}
 use Rattle.rules.specs.declared.items.Item.{Item}
 use Rattle.rules.specs.Reading.{write}

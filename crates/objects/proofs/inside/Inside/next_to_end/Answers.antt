@@ -1,9 +1,7 @@
-use Rattle.std.proofs.Common.{◌≡◌, ℕ, ◌+◌, ◌-◌, ◌<◌, ◌≤◌, min, true, leb, ◌⊎◌, List, [], ◌∷◌, sym, refl, ap, ◌∙◌, inl, inr, arith}
+use Rattle.std.proofs.Common.{◌≡◌, ◌≤◌, true, leb, ◌⊎◌, sym, refl, ap, ◌∙◌, inl, inr, arith}
 use Rattle.table.specs.Description.{description}
-use Rattle.rules.specs.Trace.{stop, out}
-use Rattle.objects.specs.declared.frame.Frame.{Frame}
-use Rattle.objects.specs.declared.frame.Frame.TheVariants.{Lines, Rounds, Elements, Counted, Uncounted}
-use Rattle.objects.specs.Frames.{frames}
+use Rattle.rules.specs.Trace.{stop}
+use Rattle.objects.specs.declared.frame.Frame.TheVariants.{Uncounted}
 use Rattle.objects.specs.Ahead.{inner_of, object_of}
 use Rattle.objects.proofs.FrameRuns.{to_end_stops, to_end_ends, to_end_begins, to_end_room, to_end_name}
 use Rattle.objects.proofs.Sames.{same-inner, begins_at, room_under, fit_under}

@@ -1,8 +1,8 @@
-use Rattle.std.proofs.Common.{◌≡◌, ℕ, ◌+◌, ◌-◌, ◌<◌, ◌≤◌, min, ◌⊎◌, List, [], ◌∷◌, sym, refl, ap, ◌∙◌, inl, inr, arith, to_z-of_z, w64, SFits, rules}
+use Rattle.std.proofs.Common.{◌-◌, [], ◌∷◌, sym, refl, ap, ◌∙◌, arith, to_z-of_z, w64, SFits, rules}
 use Rattle.table.specs.Description.{description}
-use Rattle.rules.specs.Trace.{stop, out}
+use Rattle.rules.specs.Trace.{stop}
 use Rattle.objects.specs.declared.frame.Frame.{Frame}
-use Rattle.objects.specs.declared.frame.Frame.TheVariants.{Lines, Rounds, Elements, Counted, Uncounted}
+use Rattle.objects.specs.declared.frame.Frame.TheVariants.{Rounds}
 use Rattle.objects.specs.Frames.{frames}
 use Rattle.objects.specs.Ahead.{inner_of, object_of}
 use Rattle.objects.proofs.FrameRuns.{round_fails, round_ends, round_stops, round_goes, round_room}

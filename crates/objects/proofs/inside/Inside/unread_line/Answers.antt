@@ -1,13 +1,9 @@
-use Rattle.std.proofs.Common.{◌≡◌, ℕ, ◌+◌, ◌-◌, ◌<◌, ◌≤◌, min, List, [], ◌∷◌, sym, refl, ap, ◌∙◌, subst, arith}
-use Rattle.records.specs.declared.records.Line.{Line}
+use Rattle.std.proofs.Common.{◌≤◌, sym, subst, arith}
 use Rattle.records.specs.declared.statements.Statement.{Statement}
 use Rattle.table.specs.Description.{description}
 use Rattle.rules.specs.Code.{coded, code, written}
-use Rattle.rules.specs.Trace.{stop, out}
-use Rattle.objects.specs.declared.frame.Frame.{Frame}
-use Rattle.objects.specs.declared.frame.Frame.TheVariants.{Lines, Rounds, Elements, Counted, Uncounted}
 use Rattle.objects.specs.Frames.{frames}
-use Rattle.objects.specs.Ahead.{inner_of, object_of, Room}
+use Rattle.objects.specs.Ahead.{object_of, Room}
 use Rattle.objects.specs.Moves.{CodeMoved}
 use Rattle.objects.proofs.Codes.{plain_of}
 use Rattle.objects.proofs.inside.Inside.unread_line.Goals as goal

@@ -1,8 +1,8 @@
-use Rattle.std.proofs.Common.{◌≡◌, [], ◌∷◌, sym, refl, ap, ◌∙◌}
+use Rattle.std.proofs.Common.{[], ◌∷◌, sym, refl, ap, ◌∙◌}
 use Rattle.table.specs.Description.{description}
 use Rattle.rules.specs.Trace.{stop}
 use Rattle.objects.specs.declared.frame.Frame.{Frame}
-use Rattle.objects.specs.declared.frame.Frame.TheVariants.{Counted, Lines}
+use Rattle.objects.specs.declared.frame.Frame.TheVariants.{Counted}
 use Rattle.objects.specs.Frames.{frames}
 use Rattle.objects.specs.Ahead.{inner_of, object_of}
 use Rattle.objects.proofs.LineRuns.{use_fails, use_run, counted_room}

@@ -1,4 +1,4 @@
-use Rattle.std.proofs.Common.{◌≡◌, [], ◌∷◌, sym, refl, ap, ◌∙◌}
+use Rattle.std.proofs.Common.{[], ◌∷◌, refl, ap, ◌∙◌}
 use Rattle.table.specs.Description.{description}
 use Rattle.objects.specs.declared.frame.Frame.{Frame}
 use Rattle.objects.specs.declared.frame.Frame.TheVariants.{Uncounted}

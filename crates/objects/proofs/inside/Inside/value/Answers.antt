@@ -1,4 +1,4 @@
-use Rattle.std.proofs.Common.{◌≡◌, List, sym, refl, ap, ◌∙◌}
+use Rattle.std.proofs.Common.{List, ap, ◌∙◌}
 use Rattle.records.specs.declared.records.Node.{Node}
 use Rattle.rules.specs.Values.{value}
 use Rattle.values.specs.Names.{named_by}

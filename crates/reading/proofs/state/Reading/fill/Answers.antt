@@ -1,4 +1,4 @@
-use Rattle.std.proofs.Common.{◌≡◌, ◌<◌, ◌≤◌, length, Ok, Option, subst, arith}
+use Rattle.std.proofs.Common.{◌<◌, ◌≤◌, length, Ok, Option, subst, arith}
 use Rattle.rules.specs.declared.items.Item.{Item}
 use Rattle.reading.specs.Reads.{ahead, Told}
 use Rattle.reading.proofs.Filling.{filling_goes, filled_full, filled_end, filled_refused}

@@ -1,10 +1,10 @@
-use Rattle.std.proofs.Common.{◌≡◌, ℕ, Some, None, Ok, Err, Option, Result, sym, refl, ap, ◌∙◌}
+use Rattle.std.proofs.Common.{ℕ, Some, None, Ok, Err, Option, Result, sym, refl, ap, ◌∙◌}
 use Rattle.table.specs.Description.{description}
 use Rattle.rules.specs.declared.items.Item.{Item}
 use Rattle.rules.specs.declared.faults.ReadingFault.{ReadingFault}
 use Rattle.rules.specs.Trace.{Run, out, stop, pass}
 use Rattle.reading.specs.Walks.{walk_ahead}
-use Rattle.reading.specs.Reads.{ahead, held, skipped, Positioned, Next, Told}
+use Rattle.reading.specs.Reads.{ahead, held, Positioned, Next, Told}
 use Rattle.reading.proofs.Nexts.{held_none, held_some, skipped_pass, skipped_out, skipped_stop, skipped_done, fewer_passes, told_next}
 use Rattle.reading.proofs.Props.{sound_out, readable_out}
 use Rattle.reading.proofs.state.Reading.next.Goals as goal

@@ -1,4 +1,4 @@
-use Rattle.std.proofs.Common.{◌≡◌, ◌≤◌, length, vec_items, vec_len, sym, ap, ◌∙◌, arith}
+use Rattle.std.proofs.Common.{◌≡◌, ◌≤◌, length, vec_items, vec_len, arith}
 use Rattle.table.specs.Description.{description}
 use Rattle.reading.proofs.Heights.{readable, names_few}
 use Rattle.reading.proofs.state.Reading.open.Goals as goal

@@ -1,9 +1,9 @@
-use Rattle.std.proofs.Common.{◌≡◌, ◌≤◌, sym, ap, ◌∙◌, subst, arith}
+use Rattle.std.proofs.Common.{◌≤◌, sym, ap, ◌∙◌, subst, arith}
 use Rattle.records.specs.declared.records.Class.{Class}
 use Rattle.table.specs.Description.{description}
 use Rattle.rules.specs.Steps.{header}
 use Rattle.rules.specs.Trace.{stop}
-use Rattle.reading.specs.Walks.{objects_of, Sound}
+use Rattle.reading.specs.Walks.{objects_of}
 use Rattle.reading.proofs.Entering.{begin_full, begin_fails}
 use Rattle.reading.proofs.Stepping.{few_open, all_open, sound_near}
 use Rattle.reading.proofs.walk.Walk.begin.Goals as goal

@@ -1,12 +1,9 @@
-use Rattle.std.proofs.Common.{◌≡◌, ℕ, ◌≤◌, true, not, ◌||◌, eqb, List, ◌∷◌, length, sym, refl, ap, ◌∙◌, subst, arith}
+use Rattle.std.proofs.Common.{◌≡◌, ◌≤◌, true, not, ◌||◌, eqb, ◌∷◌, length, sym, ap, ◌∙◌, subst, arith}
 use Rattle.table.specs.Description.{description}
-use Rattle.rules.specs.declared.items.Item.{Item}
 use Rattle.rules.specs.Trace.{out, stop}
 use Rattle.rules.specs.Lookups.{greatest}
-use Rattle.rules.specs.Reading.{inner, open_item}
-use Rattle.objects.specs.declared.inside.About.{About}
-use Rattle.reading.specs.declared.open_object.OpenObject.{OpenObject}
-use Rattle.reading.specs.Walks.{objects_of, walk_ahead, rest}
+use Rattle.rules.specs.Reading.{inner}
+use Rattle.reading.specs.Walks.{objects_of, rest}
 use Rattle.reading.proofs.Entering.{begin_unknown, begin_enters, inner_end}
 use Rattle.reading.proofs.Stepping.{known_class, known_greatest, pushed_ahead, pushed_sound}
 use Rattle.reading.proofs.walk.Walk.enter.Goals as goal

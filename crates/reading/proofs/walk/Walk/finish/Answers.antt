@@ -1,4 +1,4 @@
-use Rattle.std.proofs.Common.{◌≡◌, sym, ap, ◌∙◌}
+use Rattle.std.proofs.Common.{sym, ap, ◌∙◌}
 use Rattle.rules.specs.Trace.{stop}
 use Rattle.reading.proofs.Stepping.{ends_well, ends_short}
 use Rattle.reading.proofs.walk.Walk.finish.Goals as goal

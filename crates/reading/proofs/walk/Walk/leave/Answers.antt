@@ -1,4 +1,4 @@
-use Rattle.std.proofs.Common.{◌≡◌, ℕ, ◌-◌, ◌<◌, ◌≤◌, min, Bool, true, false, cond, eqb, List, ◌∷◌, length, get_or, set, ℤ, sym, refl, ap, ◌∙◌, subst, arith, to_z-of_z, w64, SFits, rules}
+use Rattle.std.proofs.Common.{◌≡◌, ℕ, ◌-◌, ◌≤◌, min, Bool, true, false, cond, eqb, ◌∷◌, length, get_or, set, ℤ, sym, refl, ap, ◌∙◌, arith, to_z-of_z, w64, SFits, rules}
 use Rattle.rules.specs.declared.items.Item.{Item}
 use Rattle.rules.specs.Trace.{out}
 use Rattle.rules.specs.Reading.{close_item, write}
@@ -6,7 +6,7 @@ use Rattle.values.specs.Names.{named_by}
 use Rattle.objects.specs.declared.inside.About.{About}
 use Rattle.objects.specs.Ahead.{inner_of, with_names, state}
 use Rattle.reading.specs.Pushes.{around}
-use Rattle.reading.specs.Walks.{no_object, rest, rest_from, received}
+use Rattle.reading.specs.Walks.{no_object, rest_from, received}
 use Rattle.reading.specs.declared.open_object.OpenObject.{OpenObject}
 use Rattle.reading.proofs.Entering.{left_at}
 use Rattle.reading.proofs.Stepping.{popped_objects, ahead_of, sound_from, left_last, left_others, received-objects, received_fit}

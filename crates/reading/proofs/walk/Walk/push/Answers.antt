@@ -1,4 +1,4 @@
-use Rattle.std.proofs.Common.{◌≡◌, ◌<◌, length, refl, arith}
+use Rattle.std.proofs.Common.{◌<◌, refl, arith}
 use Rattle.objects.proofs.Stacks.{stack_push, stack_room}
 use Rattle.reading.specs.Walks.{objects_of, no_object}
 use Rattle.reading.proofs.walk.Walk.push.Goals as goal

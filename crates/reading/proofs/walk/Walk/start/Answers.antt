@@ -1,6 +1,5 @@
-use Rattle.std.proofs.Common.{◌≡◌, sym, refl, ap, ◌∙◌, subst, arith}
+use Rattle.std.proofs.Common.{refl, arith}
 use Rattle.table.specs.Description.{description}
-use Rattle.reading.specs.Walks.{objects_of}
 use Rattle.reading.proofs.Stepping.{none_open, none_sound, start_run, turned_from}
 use Rattle.reading.proofs.walk.Walk.start.Goals as goal
 

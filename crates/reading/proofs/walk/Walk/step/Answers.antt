@@ -1,6 +1,5 @@
-use Rattle.std.proofs.Common.{◌≡◌, ℕ, ◌<◌, ◌≤◌, min, true, false, List, ◌∷◌, length, get_or, sym, refl, ap, ◌∙◌, subst, arith}
+use Rattle.std.proofs.Common.{◌≡◌, ◌≤◌, length, get_or, sym, ap, ◌∙◌, subst, arith}
 use Rattle.table.specs.Description.{description}
-use Rattle.rules.specs.declared.steps.Window.{Window}
 use Rattle.objects.specs.declared.inside.About.{About}
 use Rattle.objects.specs.declared.moves.Move.TheVariants.{Quiet, Give, Refuse, Begin, Leave}
 use Rattle.objects.specs.Ahead.{object_of}
