@@ -1,23 +1,18 @@
 -- What `get` answers over lists, and what its answers tell.
-use Rattle.std.proofs.Common.{◌≡◌, ℕ, ◌+◌, ◌-◌, ◌*◌, ◌/◌, ◌%◌, ◌^◌, ◌<◌, ◌≤◌, min, Bool, ltb, List, ◌++◌, length, take, drop, Ok, Err, sym, ap, ◌∙◌, add-mul, zero-add, arith}
+use Rattle.std.proofs.Common.{◌≡◌, ℕ, ◌+◌, ◌-◌, ◌^◌, ◌<◌, ◌≤◌, min, Bool, ltb, List, ◌++◌, length, take, drop, Ok, Err, ap, ◌∙◌, zero-add, arith}
 use lib.Seq.{drop-append-add}
-use Rattle.std.proofs.lemmas.Nat.{mul-le}
 use Rattle.std.proofs.lemmas.List.{length-append, length-take, length-drop, take-append-le, drop-append-le}
-use Rattle.std.proofs.lemmas.Bool.{le-ltb, lt-ltb}
+use Rattle.std.proofs.lemmas.Bool.{le-ltb}
 use Rattle.std.proofs.lemmas.Bool.Decides.{nat_tests}
 use Rattle.bits.specs.declared.refusal.Refusal.{Refusal}
 use Rattle.bits.specs.declared.refusal.Refusal.TheVariants.{PastEnd}
-use Rattle.bits.specs.Bits.{number, part, bits_all, limited, longest, length-limited, length-bits_all}
-use Rattle.bits.specs.Get.{widest, get_answer}
-use Rattle.bits.proofs.Numbers.{part-part, number-part_lt, number_within}
+use Rattle.bits.specs.Bits.{number, part, limited, longest, length-limited}
+use Rattle.bits.specs.Get.{widest, end_answer, place_answer, get_answer}
+use Rattle.bits.proofs.Numbers.{part-part, number-part_lt}
 
 -- what `get` answers where it does not refuse
 pub got : (l : List Bool) (p n v : ℕ) → n ≤ widest → p + n ≤ length l → v ≡ number (part l p n) → Ok v ≡ get_answer l p n
 got l p n v h k e = rw (le-ltb widest n h, le-ltb (length l) (p + n) k, e)
-
--- where it refuses
-pub past_end : (l : List Bool) (p n : ℕ) → n ≤ widest → length l < p + n → Err PastEnd ≡ get_answer l p n
-past_end l p n h k = rw (le-ltb widest n h, lt-ltb (length l) (p + n) k)
 
 -- what an `Ok` of `get` tells
 pub answered : (l : List Bool) (p n v : ℕ) → Ok v ≡ get_answer l p n → (n ≤ widest) × (p + n ≤ length l) × (v ≡ number (part l p n))
@@ -74,13 +69,17 @@ get_window l f m p n z h =
     let e : length (part l f m) ≡ min m (length l - f) = rw (length-take, length-drop) in
     get_same (part l f m) l p (f + p) n (λ k. omega arith) (λ k. omega arith) (part-part l f m p n h)
 
--- the length of a source of numbers of w bits
-pub length_numbers : (w : ℕ) (xs : List ℕ) → length (limited (bits_all w xs)) ≡ min longest (length xs * w)
-length_numbers w xs = rw (length-limited, length-bits_all)
+-- what an `Ok` tells of a place
+pub placed : (size p n : ℕ) (u : Unit {0}) → Ok u ≡ place_answer size p n → (n ≤ widest) × (p + n ≤ size)
+placed size p n u e = grind (arith, nat_tests)
 
--- what `get` answers over numbers of w bits: `past` bits stand after the part in the `count` numbers from `first` on
-pub got_numbers : (w : ℕ) (xs : List ℕ) (first count p n past v : ℕ) → n ≤ widest → p + n ≤ longest → first * w ≤ p → p + n + past ≡ first * w + count * w → first + count ≤ length xs → v ≡ number (bits_all w (take count (drop first xs))) / 2 ^ past % 2 ^ n → Ok v ≡ get_answer (limited (bits_all w xs)) p n
-got_numbers w xs first count p n past v few short h e l is =
-    let all : (first + count) * w ≤ length xs * w = mul-le (first + count) w (length xs) w l (omega arith) in
-    let long : p + n ≤ length (bits_all w xs) = rw length-bits_all (omega (arith, add-mul first count w)) in
-    got (bits_all w xs) p n v few long (is ∙ sym (number_within w xs first count p n past h e l)) ∙ sym (get_limited (bits_all w xs) p n short)
+-- what an `Ok` tells of an end
+pub ended : (size p n : ℕ) (u : Unit {0}) → Ok u ≡ end_answer size p n → p + n ≤ size
+ended size p n u e = grind (arith, nat_tests)
+
+-- what an `Ok` tells of a place in two lists, one after the other
+pub placed_joined : (a b : List Bool) (size p n : ℕ) (u : Unit {0}) → size ≡ length (limited (a ++ b)) → Ok u ≡ place_answer size p n → (n ≤ widest) × (p + n ≤ longest) × (p + n ≤ length a + length b)
+placed_joined a b size p n u e h =
+    let at = placed size p n u h in
+    let all : size ≡ min longest (length a + length b) = e ∙ rw (length-limited, length-append) in
+    (at.0, omega arith, omega arith)

@@ -1,11 +1,11 @@
 -- The number that bits write: of two lists, of a part, of the bits of numbers.
-use Rattle.std.proofs.Common.{◌≡◌, ℕ, zero, suc, ◌+◌, ◌-◌, ◌*◌, ◌/◌, ◌%◌, ◌^◌, ◌<◌, ◌≤◌, min, Bool, true, false, eqb, List, [], ◌∷◌, ◌++◌, length, get_or, take, drop, sym, refl, ap, ◌∙◌, subst, add_assoc, mod-eq_of_lt, mul_assoc, suc-mul, add-mul, one-mul, zero-mul, one-add, arith, take-add, pow_mono}
+use Rattle.std.proofs.Common.{◌≡◌, ℕ, zero, suc, ◌+◌, ◌-◌, ◌*◌, ◌/◌, ◌%◌, ◌^◌, ◌<◌, ◌≤◌, Bool, true, false, eqb, List, [], ◌∷◌, ◌++◌, length, take, drop, sym, refl, ap, ◌∙◌, subst, add_assoc, mul_assoc, suc-mul, add-mul, zero-mul, one-add, arith, take-add}
 use native.Mathlib.Nat.{pow-succ'}
 use lib.Bits.{bit_or}
 use lib.Seq.{take-nil, drop-nil, take-append-add, drop-append-add}
-use Rattle.std.proofs.lemmas.Nat.{pow-add, shr_high, mod_low, mod-pow-add, mod_below, mul-le, shl_whole, or_shifted}
-use Rattle.std.proofs.lemmas.List.{length-append, append-nil, take_more, take_rest, length-take, length-drop, take-append-drop, drop-drop, drop-take, append_assoc, drop-append-le, take-take}
-use Rattle.bits.specs.Bits.{bit_value, number, part, bits_of, bits_all, length-bits_of, length-bits_all}
+use Rattle.std.proofs.lemmas.Nat.{pow-add, shr_high, mod_low, mod-pow-add, mod_below, shl_whole, or_shifted}
+use Rattle.std.proofs.lemmas.List.{length-append, take_rest, length-take, length-drop, take-append-drop, drop-drop, drop-take, append_assoc, drop-append-le, take-take}
+use Rattle.bits.specs.Bits.{bit_value, number, part, bits_of, bits_all, length-bits_of}
 
 pub number_append : (a b : List Bool) → number (a ++ b) ≡ number a * 2 ^ length b + number b
 unfolding number
@@ -77,40 +77,6 @@ part_split l p m n = take-add m n (drop p l) ∙ ap (λ t. take m (drop p l) ++ 
 pub bits_all-append : (w : ℕ) (xs ys : List ℕ) → bits_all w (xs ++ ys) ≡ bits_all w xs ++ bits_all w ys
 bits_all-append w [] ys = refl
 bits_all-append w (x ∷ xs) ys = rw (bits_all-append w xs ys) (sym (append_assoc (bits_of w x) (bits_all w xs) (bits_all w ys)))
-
--- one more number at the end
-pub number_more : (w : ℕ) (xs : List ℕ) (i : ℕ) → i < length xs → number (bits_all w (take (i + 1) xs)) ≡ number (bits_all w (take i xs)) * 2 ^ w + get_or xs i 0 % 2 ^ w
-number_more w xs i h =
-    rw (take_more xs i 0 h, bits_all-append, number_append, append-nil, length-bits_of, number-bits_of)
-
-pub number-all_lt : (w : ℕ) (xs : List ℕ) → number (bits_all w xs) < 2 ^ (length xs * w)
-number-all_lt w xs = rw (length-bits_all w xs) at (number_lt (bits_all w xs))
-
--- the first i numbers write one of at most k bits
-pub number_first_lt : (w : ℕ) (xs : List ℕ) (i k : ℕ) → i * w ≤ k → number (bits_all w (take i xs)) < 2 ^ k
-number_first_lt w xs i k h =
-    let few : length (take i xs) ≤ i = rw length-take (omega arith) in
-    let le : length (take i xs) * w ≤ k = omega (arith, mul-le (length (take i xs)) w i w few (omega arith)) in
-    omega (arith, number-all_lt w (take i xs), pow_mono le)
-
--- a shift by w bits and an or add one more number, where all fit in 64 bits
-pub gather_more : (w : ℕ) (xs : List ℕ) (i whole : ℕ) → i < length xs → (i + 1) * w ≤ 64 → get_or xs i 0 < 2 ^ w → whole ≡ number (bits_all w (take i xs)) → bit_or ((whole * 2 ^ w) % 2 ^ 64) (get_or xs i 0) ≡ number (bits_all w (take (i + 1) xs))
-gather_more w xs i whole h k b e =
-    let fits : i * w + w ≤ 64 = omega (arith, add-mul i 1 w, one-mul w) in
-    let lt : whole < 2 ^ (i * w) = rw e (number_first_lt w xs i (i * w) (omega arith)) in
-    rw (shl_whole whole (i * w) w 64 lt fits, or_shifted whole w (get_or xs i 0) b, number_more w xs i h, mod-eq_of_lt b, e)
-
--- a part that lies in `count` numbers from `first` on, with `past` bits of those after it
-pub number_within : (w : ℕ) (xs : List ℕ) (first count p n past : ℕ) → first * w ≤ p → p + n + past ≡ first * w + count * w → first + count ≤ length xs → number (part (bits_all w xs) p n) ≡ number (bits_all w (take count (drop first xs))) / 2 ^ past % 2 ^ n
-number_within w xs first count p n past h e l =
-    let q : bits_all w (take count (drop first xs)) ≡ part (bits_all w xs) (first * w) (count * w) =
-    sym (ap (take (count * w)) (drop-bits_all w first xs) ∙ take-bits_all w count (drop first xs)) in
-    let f : first * w + (p - first * w) ≡ p = omega arith in
-    let m : p - first * w + n ≤ count * w = omega arith in
-    let cut : min count (length xs - first) ≡ count = omega arith in
-    let len : p - first * w + n + past ≡ length (bits_all w (take count (drop first xs))) =
-    rw (length-bits_all, length-take, length-drop) (rw cut (omega arith)) in
-    ap (λ t. number (part (bits_all w xs) t n)) (sym f) ∙ (sym (ap number (part-part (bits_all w xs) (first * w) (count * w) (p - first * w) n m)) ∙ (ap (λ t. number (part t (p - first * w) n)) (sym q) ∙ number-part (bits_all w (take count (drop first xs))) (p - first * w) n past len))
 
 -- a number across the boundary of two lists, `past` bits of it in the second
 pub number_across : (a b : List Bool) (p n past : ℕ) → p ≤ length a → p + n ≡ length a + past → past ≤ length b → number (part (a ++ b) p n) ≡ number (part a p (length a - p)) * 2 ^ past + number (part b 0 past)

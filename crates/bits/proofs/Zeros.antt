@@ -1,9 +1,9 @@
 -- Bits that are all 0.
 use Rattle.std.proofs.Common.{◌≡◌, ℕ, ◌+◌, ◌-◌, ◌*◌, ◌^◌, ◌≤◌, Bool, true, false, ◌&&◌, eqb, List, [], ◌∷◌, ◌++◌, length, replicate, Ok, sym, refl, ap, ◌∙◌, arith}
 use Rattle.std.proofs.lemmas.Nat.{pow_pos}
-use Rattle.std.proofs.lemmas.Bool.{ne_eqb, false≢true, and_right}
+use Rattle.std.proofs.lemmas.Bool.{le-ltb, ne_eqb, false≢true, and_right}
 use Rattle.bits.specs.Bits.{number, part}
-use Rattle.bits.specs.Zero.{all_zero}
+use Rattle.bits.specs.Zero.{all_zero, zero_answer}
 use Rattle.bits.specs.Get.{get_answer}
 use Rattle.bits.proofs.Numbers.{part_split}
 use Rattle.bits.proofs.Gets.{answered}
@@ -51,3 +51,7 @@ zero_not l p c q n h k f =
     let at : p + (q - p) ≡ q = omega arith in
     let sum : c ≡ q - p + (n + (p + c - q - n)) = omega arith in
     ap (λ t. all_zero (part l p t)) sum ∙ rw (part_split l p (q - p), at, part_split l q n, zero_append (part l p (q - p)), zero_append (part l q n), f) (and_right (all_zero (part l p (q - p))) false refl)
+
+-- what is answered where the bits are all there
+pub zero_told : (l : List Bool) (p n : ℕ) (b : Bool) → p + n ≤ length l → all_zero (part l p n) ≡ b → Ok b ≡ zero_answer l p n
+zero_told l p n b h e = rw (le-ltb (length l) (p + n) h, e)

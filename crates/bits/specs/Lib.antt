@@ -4,4 +4,5 @@ pub mod Laws
 pub mod Make
 pub mod Put
 pub mod Refusals
+pub mod Units
 pub mod Zero

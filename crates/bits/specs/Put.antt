@@ -1,9 +1,8 @@
 -- What storing bits into bytes does.
-use Rattle.std.specs.Prelude.{ℕ, ◌+◌, ◌*◌, ◌/◌, ◌%◌, ◌^◌, Bool, cond, List, ◌++◌, take, drop, Ok, Err, Result, nat_lt}
+use Rattle.std.specs.Prelude.{ℕ, ◌+◌, ◌*◌, ◌/◌, ◌%◌, ◌^◌, Bool, List, ◌++◌, take, drop, Result}
 use Rattle.bits.specs.declared.refusal.Refusal.{Refusal}
-use Rattle.bits.specs.declared.refusal.Refusal.TheVariants.{TooWide, PastEnd}
 use Rattle.bits.specs.Bits.{bits_of}
-use Rattle.bits.specs.Get.{widest}
+use Rattle.bits.specs.Get.{place_answer}
 
 -- a list with the n lowest bits of v from place p on, and every other bit as it was
 unfoldable pub with_bits : List Bool → ℕ → ℕ → ℕ → List Bool
@@ -11,7 +10,7 @@ with_bits l p n v = take p l ++ (bits_of n v ++ drop (p + n) l)
 
 -- whether n bits are stored at place p of `size` bits, or why not
 abbrev pub put_answer : ℕ → ℕ → ℕ → Result (Unit {0}) Refusal
-put_answer size p n = cond (nat_lt widest n) (Err TooWide) (cond (nat_lt size (p + n)) (Err PastEnd) (Ok tt))
+put_answer = place_answer
 
 -- the number b with the m lowest bits of x above its `tail` lowest bits
 abbrev pub with_piece : ℕ → ℕ → ℕ → ℕ → ℕ

@@ -4,10 +4,12 @@ ghost use Rattle.bits.specs.Bits.{limited, limited_short, longest};
 ghost use Rattle.bits.specs.Get.{get_answer};
 ghost use Rattle.bits.specs.Make.{Makes};
 
+use crate::place::check_place;
 use crate::refusal::Refusal;
-use crate::source::{LONGEST, Source, WIDEST};
+use crate::source::{LONGEST, Source};
 
-// The bits of one source, and then those of another.
+// The bits of one source, and then those of another. That they are not too many is no ghost field,
+// as that would take the derived `Clone` from joins of sources that are not `Copy`.
 #[derive(Clone, Copy)]
 pub struct Join<S, T> {
     front: S,
@@ -40,12 +42,7 @@ impl<S: Source, T: Source> Source for Join<S, T> {
     }
 
     fn get(&self, p: u32, n: u32) -> Result<u64, Refusal> {
-        if n > WIDEST {
-            return Err(Refusal::TooWide);
-        }
-        if p > LONGEST - n {
-            return Err(Refusal::PastEnd);
-        }
+        check_place(u64::from(self.length()), p, n)?;
         let middle = self.front.length();
         if p + n <= middle {
             return self.front.get(p, n);

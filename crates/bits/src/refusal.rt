@@ -1,6 +1,7 @@
 ghost use Rattle.std.specs.Prelude.{◌≡◌};
 ghost use Rattle.bits.specs.Refusals.{refusal_number};
 
+use std::error::Error;
 use std::fmt;
 
 // A caller's mistake: why a call was refused. A refused call changes nothing.
@@ -24,6 +25,8 @@ impl Refusal {
         self as u16
     }
 }
+
+impl Error for Refusal {}
 
 impl fmt::Display for Refusal {
     fn fmt<W: fmt::Write>(&self, f: &mut fmt::Formatter<W>) -> fmt::Result {

@@ -4,10 +4,12 @@ ghost use Rattle.bits.specs.Bits.{part, part_short};
 ghost use Rattle.bits.specs.Get.{get_answer};
 ghost use Rattle.bits.specs.Make.{Makes};
 
+use crate::place::check_place;
 use crate::refusal::Refusal;
-use crate::source::{Source, WIDEST};
+use crate::source::Source;
 
-// The bits of a source from place `first` up to place `end`.
+// The bits of a source from place `first` up to place `end`. That they lie in the source is no ghost
+// field, as that would take the derived `Clone` from windows over sources that are not `Copy`.
 #[derive(Clone, Copy)]
 pub struct Window<S> {
     inner: S,
@@ -23,11 +25,10 @@ impl<S: Source + Drop> Window<S> {
             (part (S.bits inner) first count)
             (first + count) (length (S.bits inner)) Outside }
     {
-        let length = inner.length();
-        if count > length || first > length - count {
-            return Err(Refusal::Outside);
-        }
-        let end = first + count;
+        let end = first
+            .checked_add(count)
+            .filter(|&end| end <= inner.length())
+            .ok_or(Refusal::Outside)?;
         Ok(Window { inner, first, end })
     }
 }
@@ -43,19 +44,11 @@ impl<S: Source> Source for Window<S> {
     }
 
     fn get(&self, p: u32, n: u32) -> Result<u64, Refusal> {
-        if n > WIDEST {
-            return Err(Refusal::TooWide);
+        check_place(u64::from(self.length()), p, n)?;
+        if n == 0 {
+            // The source need not reach to `first`, and would refuse a place past its end.
+            return Ok(0);
         }
-        let count = self.end.saturating_sub(self.first);
-        if n > count || p > count - n {
-            return Err(Refusal::PastEnd);
-        }
-        if n > 0 {
-            return self.inner.get(self.first + p, n);
-        }
-        if p > self.length() {
-            return Err(Refusal::PastEnd);
-        }
-        Ok(0)
+        self.inner.get(self.first + p, n)
     }
 }

@@ -1,6 +1,7 @@
 ghost use Rattle.std.specs.Prelude.{◌≡◌};
 ghost use Rattle.bits.specs.Zero.{zero_answer};
 
+use crate::place::check_end;
 use crate::refusal::Refusal;
 use crate::source::{Source, WIDEST};
 
@@ -9,19 +10,12 @@ use crate::source::{Source, WIDEST};
 pub fn is_zero<S: Source>(source: &S, from: u32, count: u32) -> Result<bool, Refusal>
     ensures { result ≡ zero_answer (S.bits source.now) from count }
 {
-    let length = source.length();
-    if count > length || from > length - count {
-        return Err(Refusal::PastEnd);
-    }
+    check_end(u64::from(source.length()), from, count)?;
     let end = from + count;
-    let mut at = from;
-    while at < end {
-        let n = WIDEST.min(end - at);
-        let piece = source.get(at, n)?;
-        if piece != 0 {
+    for at in (from..end).step_by(WIDEST as usize) {
+        if source.get(at, WIDEST.min(end - at))? != 0 {
             return Ok(false);
         }
-        at += n;
     }
     Ok(true)
 }

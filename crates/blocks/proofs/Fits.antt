@@ -1,6 +1,6 @@
 -- In a sound block no line's blocks run past what holds the line.
 use Rattle.std.proofs.Common.{◌≡◌, ℕ, zero, suc, ◌+◌, ◌-◌, ◌<◌, ◌≤◌, Bool, true, false, not, ◌&&◌, ◌||◌, ltb, leb, length, Option, sym, refl, ap, ◌∙◌, subst, inl, inr, arith, ltb-true, le-ltb, leb-true}
-use Rattle.std.proofs.lemmas.Bool.{and_parts, or_parts, not-false}
+use Rattle.std.proofs.lemmas.Bool.{and_parts, or_parts, or_from, not-false}
 use Rattle.std.proofs.lemmas.Bool.Decides.{leb_tells}
 use Rattle.table.specs.Description.{Description, statement_at, class_at, extension_at}
 use Rattle.table.specs.First.{is_some, first_upto, some_upto}
@@ -128,25 +128,22 @@ module _ (d : Description) where
   not_before start count n end h =
       within (in_stretch start count n) _ (λ e. let p = stretch_parts start count n e in le-ltb (start + count) end (h p.0 p.1))
 
-  neither : (a b : Bool) → a ≡ false → b ≡ false → (a || b) ≡ false
-  neither a b e f = rw (e, f)
-
   none_past : (first number : ℕ) → Fits d first number → (n : ℕ) → past_in d first number n ≡ false
   none_past first number fits n =
       within (in_stretch first number n) _ (λ e.
       let p = stretch_parts first number n e in
       let end = n + taken (statement_at d n) in
-      neither (ltb (first + number) end) _ (le-ltb (first + number) end (fits.ends n p.0 p.1))
+      or_from (ltb (first + number) end) _ (le-ltb (first + number) end (fits.ends n p.0 p.1))
       (ap (λ (o : Option ℕ). is_some o) (none_pass (past_block d first number n end) (length d.lines) (λ m a b.
       within (in_stretch first number m) _ (λ f.
       let q = stretch_parts first number m f in
       let k = fits.kept n m p.0 p.1 q.0 q.1 in
-      neither _ _ (not_before (m + 1) (in_first (statement_at d m)) n end k.0) (not_before (m + 1 + in_first (statement_at d m)) (in_second (statement_at d m)) n end k.1))))))
+      or_from _ _ (not_before (m + 1) (in_first (statement_at d m)) n end k.0) (not_before (m + 1 + in_first (statement_at d m)) (in_second (statement_at d m)) n end k.1))))))
 
   no_past : some_unsound d ≡ false → (n : ℕ) → past d n ≡ false
   no_past e n =
       let p = or_parts (some_upto (class_unsound d) (length d.classes)) _ e in
-      neither _ _
+      or_from _ _
       (ap (λ (o : Option ℕ). is_some o) (none_pass (past_in_class d n) (length d.classes) (λ c a b.
       none_past (class_at d c).first (class_at d c).number (sound_fits (class_at d c).first (class_at d c).number 0 (not-false _ (no_some (class_unsound d) (length d.classes) p.0 c a b))) n)))
       (ap (λ (o : Option ℕ). is_some o) (none_pass (past_in_extension d n) (length d.extensions) (λ x a b.

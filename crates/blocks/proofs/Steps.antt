@@ -72,7 +72,10 @@ pub deeper_none : (k : ℕ) (d : Description) (n : ℕ) → k ≡ 0 → true ≡
 unfolding deeper
 deeper_none k d n e = rw e
 
-pub deeper_more : (k : ℕ) (d : Description) (n : ℕ) → 0 < k → deeper k d n ≡ (is_operator (node_at d n) && (deeper (k - 1) d (node_at d n).a || deeper (k - 1) d (node_at d n).b))
+deeper_more : (k : ℕ) (d : Description) (n : ℕ) → 0 < k → deeper k d n ≡ (is_operator (node_at d n) && (deeper (k - 1) d (node_at d n).a || deeper (k - 1) d (node_at d n).b))
 unfolding deeper
 deeper_more zero d n p = absurd (omega arith)
 deeper_more (suc k) d n p = let e : suc k - 1 ≡ k = omega arith in rw e
+
+pub deeper_by : (k : ℕ) (d : Description) (n : ℕ) → 0 < k → {r : Bool} → r ≡ (is_operator (node_at d n) && (deeper (k - 1) d (node_at d n).a || deeper (k - 1) d (node_at d n).b)) → r ≡ deeper k d n
+deeper_by k d n p e = e ∙ sym (deeper_more k d n p)

@@ -7,29 +7,29 @@ use Rattle.table.specs.Description.{Description, statement_at, node_at}
 
 -- an if or while line has blocks
 abbrev pub has_blocks : Statement → Bool
-has_blocks (Read signed width name count alignment ahead lowest highest) = false
+has_blocks (Read fields) = false
 has_blocks (Assign name node) = false
 has_blocks (MapRead map name) = false
-has_blocks (Use class count least most carried receiving) = false
+has_blocks (Use fields) = false
 has_blocks (If node first second) = true
 has_blocks (While node lines rounds) = true
 has_blocks Unknown = false
 
 -- the lines in a line's first block, and in its second
 abbrev pub in_first : Statement → ℕ
-in_first (Read signed width name count alignment ahead lowest highest) = 0
+in_first (Read fields) = 0
 in_first (Assign name node) = 0
 in_first (MapRead map name) = 0
-in_first (Use class count least most carried receiving) = 0
+in_first (Use fields) = 0
 in_first (If node first second) = first
 in_first (While node lines rounds) = lines
 in_first Unknown = 0
 
 abbrev pub in_second : Statement → ℕ
-in_second (Read signed width name count alignment ahead lowest highest) = 0
+in_second (Read fields) = 0
 in_second (Assign name node) = 0
 in_second (MapRead map name) = 0
-in_second (Use class count least most carried receiving) = 0
+in_second (Use fields) = 0
 in_second (If node first second) = second
 in_second (While node lines rounds) = 0
 in_second Unknown = 0

@@ -3,7 +3,14 @@ use Rattle.std.specs.Prelude.{ℕ, ◌+◌, Bool, not, ◌&&◌, ◌||◌, lengt
 use Rattle.table.specs.Description.{Description, class_at, extension_at, statement_at}
 use Rattle.table.specs.First.{some_upto, count_upto}
 use Rattle.passes.specs.Stretches.{in_stretch}
+use Rattle.passes.specs.declared.stretches.Stretch.{Stretch}
 use Rattle.blocks.specs.Nesting.{has_blocks, in_first, in_second, taken, deeper}
+
+-- a stretch of a class or extension passes
+abbrev pub some_stretch : Description → (passes : Stretch → Bool) → Bool
+some_stretch d passes =
+    some_upto (λ c. passes (record { first = (class_at d c).first; number = (class_at d c).number })) (length d.classes)
+    || some_upto (λ e. passes (record { first = (extension_at d e).first; number = (extension_at d e).number })) (length d.extensions)
 
 -- whether line n is in the stretch of class c, or of extension e
 abbrev pub in_class : Description → (n c : ℕ) → Bool

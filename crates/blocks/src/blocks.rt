@@ -12,10 +12,7 @@ pub(crate) const DEEPEST: usize = 8;
 pub(crate) fn has_blocks(s: Statement) -> bool
     ensures { result ≡ has_blocks s }
 {
-    match s {
-        Statement::If { .. } | Statement::While { .. } => true,
-        _ => false,
-    }
+    matches!(s, Statement::If { .. } | Statement::While { .. })
 }
 
 // The lines in a line's first block.
@@ -43,6 +40,7 @@ pub(crate) fn in_second(s: Statement) -> usize
 
 // Whether the `count` lines from `first` on, inside `depth` blocks, are a sound block: each of its lines is sound.
 #[cycle(block_sound_line_sound)]
+#[tactic(auto, using(crate::proofs::Steps::sound_none, crate::proofs::Steps::past_unsound, crate::proofs::Steps::past_sound))]
 pub(crate) fn block_sound(loaded: &Loaded, first: usize, count: usize, depth: usize) -> bool
     requires { (first + count < 4294967296) × (depth + count < 4294967296) }
     ensures { result ≡ block_sound (description loaded.now) first count depth }

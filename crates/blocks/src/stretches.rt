@@ -1,116 +1,57 @@
-ghost use Rattle.std.specs.Prelude.{◌≡◌, ℕ, ◌+◌, not, ◌==◌};
-ghost use Rattle.table.specs.Description.{description, extension_at};
-ghost use Rattle.blocks.specs.Stretches.{in_class, in_extension, in_one};
-ghost use Rattle.blocks.specs.Sound.{class_unsound, extension_unsound, some_unsound};
+ghost use Rattle.std.specs.Prelude.{◌≡◌, Bool};
+ghost use Rattle.table.specs.Description.{description};
+ghost use Rattle.passes.specs.Tests.{Answers};
+ghost use Rattle.passes.specs.declared.stretches.Stretch.{Stretch};
+ghost use Rattle.blocks.specs.Stretches.{some_stretch, in_class, in_extension, in_one};
+ghost use Rattle.blocks.specs.Sound.{some_unsound};
 
 use crate::blocks::block_sound;
-use passes::families::class_at;
-use passes::first::{Test, count, some};
-use passes::stretches::in_stretch;
-use records::records::Extension;
+use passes::first::{count, some};
+use passes::stretches::Stretch;
 use table::loaded::Loaded;
-use table::record::record_at;
 
-// Extension number n.
-pub fn extension_at(loaded: &Loaded, n: usize) -> Extension
-    ensures { result ≡ extension_at (description loaded.now) n }
+// Whether a stretch of a class or extension passes the test.
+pub(crate) fn some_stretch<F: Fn(Stretch) -> bool>(loaded: &Loaded, test: F) -> bool
+    requires { F.IsAlwaysCallable test }
+    ensures { (p : Stretch → Bool) → Answers F.post test p → result ≡ some_stretch (description loaded.now) p }
 {
-    record_at(&loaded.extensions, n)
+    some(
+        loaded.classes.len(),
+        |c| test(Stretch::from(loaded.class(c))),
+    ) || some(loaded.extensions.len(), |e| {
+        test(Stretch::from(loaded.extension(e)))
+    })
 }
 
-// Whether a line is in a class's stretch.
-#[derive(Clone, Copy)]
-pub struct InClass {
-    pub line: usize,
-}
-
-impl Test for InClass {
-    ghost passes = { λ t d c. in_class d t.line c };
-
-    fn holds(&self, loaded: &Loaded, n: usize) -> bool {
-        let class = class_at(loaded, n);
-        in_stretch(class.first, class.number, self.line)
-    }
-}
-
-// Whether a line is in an extension's stretch.
-#[derive(Clone, Copy)]
-pub struct InExtension {
-    pub line: usize,
-}
-
-impl Test for InExtension {
-    ghost passes = { λ t d e. in_extension d t.line e };
-
-    fn holds(&self, loaded: &Loaded, n: usize) -> bool {
-        let extension = extension_at(loaded, n);
-        in_stretch(extension.first, extension.number, self.line)
-    }
-}
-
-// Whether two counts are one in all.
-fn one_in_all(x: usize, y: usize) -> bool
-    ensures { result ≡ (x + y == 1) }
+// Whether line n is in the stretch of class c. This and the next are two, since what holds a line asks for classes first, by number, and
+// then for extensions.
+pub fn in_class(loaded: &Loaded, n: usize, c: usize) -> bool
+    ensures { result ≡ in_class (description loaded.now) n c }
 {
-    if x == 0 { y == 1 } else { x == 1 && y == 0 }
+    Stretch::from(loaded.class(c)).has(n)
+}
+
+// Whether line n is in the stretch of extension e.
+pub fn in_extension(loaded: &Loaded, n: usize, e: usize) -> bool
+    ensures { result ≡ in_extension (description loaded.now) n e }
+{
+    Stretch::from(loaded.extension(e)).has(n)
 }
 
 // Whether line n is in exactly one stretch.
 pub(crate) fn in_one(loaded: &Loaded, n: usize) -> bool
     ensures { result ≡ in_one (description loaded.now) n }
 {
-    let classes = count(&InClass { line: n }, loaded, loaded.classes.len());
-    let extensions = count(&InExtension { line: n }, loaded, loaded.extensions.len());
-    one_in_all(classes, extensions)
-}
-
-// Whether a line is not in exactly one stretch.
-#[derive(Clone, Copy)]
-pub struct NotInOne;
-
-impl Test for NotInOne {
-    ghost passes = { λ _ d n. not (in_one d n) };
-
-    fn holds(&self, loaded: &Loaded, n: usize) -> bool {
-        !in_one(loaded, n)
-    }
-}
-
-// Whether a class's stretch is no sound block.
-#[derive(Clone, Copy)]
-pub struct ClassUnsound;
-
-impl Test for ClassUnsound {
-    ghost passes = { λ _ d c. class_unsound d c };
-
-    fn holds(&self, loaded: &Loaded, n: usize) -> bool {
-        let class = class_at(loaded, n);
-        !block_sound(loaded, class.first as usize, class.number as usize, 0)
-    }
-}
-
-// Whether an extension's stretch is no sound block.
-#[derive(Clone, Copy)]
-pub struct ExtensionUnsound;
-
-impl Test for ExtensionUnsound {
-    ghost passes = { λ _ d e. extension_unsound d e };
-
-    fn holds(&self, loaded: &Loaded, n: usize) -> bool {
-        let extension = extension_at(loaded, n);
-        !block_sound(
-            loaded,
-            extension.first as usize,
-            extension.number as usize,
-            0,
-        )
-    }
+    let classes = count(loaded.classes.len(), |c| in_class(loaded, n, c));
+    let extensions = count(loaded.extensions.len(), |e| in_extension(loaded, n, e));
+    classes + extensions == 1
 }
 
 // Whether some stretch is no sound block.
 pub(crate) fn some_unsound(loaded: &Loaded) -> bool
     ensures { result ≡ some_unsound (description loaded.now) }
 {
-    some(&ClassUnsound, loaded, loaded.classes.len())
-        || some(&ExtensionUnsound, loaded, loaded.extensions.len())
+    some_stretch(loaded, |stretch| {
+        !block_sound(loaded, stretch.first as usize, stretch.number as usize, 0)
+    })
 }

@@ -1,18 +1,19 @@
 // Cases of an older and a newer description: whether the newer has grown from the older, what is struck of a list of the newer's items,
 // and whether the newer's fault lies inside what the older lacks.
 use crate::lines::{description_of, fault_of, item_of};
+use crate::tally::Tally;
 use anyhow::anyhow;
 use checked::checked::Checked;
 use growth::grown::grown;
 use growth::striker::Striker;
 use rules::items::Item;
 use std::alloc::Global;
+use std::collections::VecDeque;
 use std::fs;
 
 // Whose items the lines of a case are.
 #[derive(Clone, Copy, PartialEq, Eq)]
 enum Part {
-    Nobody,
     Newer,
     Struck,
 }
@@ -22,11 +23,10 @@ enum Part {
 struct Case {
     older: Option<Checked>,
     newer: Option<Checked>,
-    part: Part,
+    part: Option<Part>,
     striker: Striker,
-    // what is left of the newer's items, and how many of those were compared
-    left: Vec<Item>,
-    compared: usize,
+    // what is left of the newer's items, and was not compared yet
+    left: VecDeque<Item>,
     // whether the newer's fault lies inside what the older lacks
     lacks: bool,
 }
@@ -35,18 +35,17 @@ struct Case {
 pub(crate) fn run(rt: &HostRuntime, name: &str) -> anyhow::Result<()> {
     let text = fs::read_to_string(rt, name)?;
     let mut case = Case::new(rt.alloc());
-    let mut cases = 0u32;
-    let mut differ = 0u32;
+    let mut tally = Tally::default();
     for line in text.as_str().lines() {
         if line.starts_with("older ") {
-            cases = cases.saturating_add(1);
+            tally.begin();
         }
         if !case.take(rt.alloc(), line)? {
-            differ = differ.saturating_add(1);
-            println!(rt; "{name}, case {cases} differs: {line}")?;
+            let case = tally.differs();
+            println!(rt; "{name}, case {case} differs: {line}")?;
         }
     }
-    println!(rt; "{name}: {cases} cases, {differ} differ")?;
+    println!(rt; "{name}: {tally}")?;
     Ok(())
 }
 
@@ -55,10 +54,9 @@ impl Case {
         Case {
             older: None,
             newer: None,
-            part: Part::Nobody,
+            part: None,
             striker: Striker::new(),
-            left: Vec::new(heap),
-            compared: 0,
+            left: VecDeque::new(heap),
             lacks: false,
         }
     }
@@ -66,13 +64,13 @@ impl Case {
     // Takes one line of the case; false where it is an answer, and another one is worked out.
     fn take(&mut self, heap: Global, line: &str) -> anyhow::Result<bool> {
         match line {
-            "reading by the newer:" => self.part = Part::Newer,
-            "struck:" => self.part = Part::Struck,
+            "reading by the newer:" => self.part = Some(Part::Newer),
+            "struck:" => self.part = Some(Part::Struck),
             "no fault inside what the older lacks" => return Ok(self.all_compared() && !self.lacks),
             "the fault lies inside what the older lacks" => {
                 return Ok(self.all_compared() && self.lacks);
             }
-            "reading by the older:" => self.part = Part::Nobody,
+            "reading by the older:" => self.part = None,
             _ => {
                 if line.starts_with("older")
                     || line.starts_with("newer")
@@ -88,20 +86,20 @@ impl Case {
 
     // Takes the two descriptions and whether the newer has grown, each after its word.
     fn described(&mut self, heap: Global, line: &str) -> anyhow::Result<bool> {
-        let mut next = Word::Unknown;
+        let mut before = "";
         let mut same = true;
         for word in line.split_whitespace() {
-            match next {
-                Word::Older => {
+            match before {
+                "older" => {
                     let older = description_of(heap, word)?;
                     *self = Case::new(heap);
                     self.older = Some(older);
                 }
-                Word::Newer => self.newer = Some(description_of(heap, word)?),
-                Word::Grown => same = (word == "yes") == self.is_grown(),
-                Word::Unknown => {}
+                "newer" => self.newer = Some(description_of(heap, word)?),
+                "grown" => same = (word == "yes") == self.is_grown(),
+                _ => {}
             }
-            next = word_of(word);
+            before = word;
         }
         Ok(same)
     }
@@ -116,19 +114,14 @@ impl Case {
     // Takes an item or the fault of the newer's reading, or an item of what is left of it.
     fn listed(&mut self, heap: Global, line: &str) -> anyhow::Result<bool> {
         match self.part {
-            Part::Nobody => Ok(true),
-            Part::Newer => {
+            None => Ok(true),
+            Some(Part::Newer) => {
                 self.newer_line(heap, line)?;
                 Ok(true)
             }
-            Part::Struck => {
+            Some(Part::Struck) => {
                 let item = item_of(heap, line)?;
-                let at = self.compared;
-                self.compared = at.saturating_add(1);
-                match self.left.get(at) {
-                    Some(left) => Ok(*left == item),
-                    None => Ok(false),
-                }
+                Ok(self.left.pop_front() == Some(item))
             }
         }
     }
@@ -146,31 +139,13 @@ impl Case {
             return Ok(());
         }
         if let Some(item) = self.striker.take(older.tables(), item_of(heap, line)?) {
-            self.left.push(item)?;
+            self.left.push_back(item)?;
         }
         Ok(())
     }
 
     // Whether nothing is left that was not compared.
     fn all_compared(&self) -> bool {
-        self.compared == self.left.len()
-    }
-}
-
-// What the next word of a line is.
-#[derive(Clone, Copy)]
-enum Word {
-    Unknown,
-    Older,
-    Newer,
-    Grown,
-}
-
-fn word_of(text: &str) -> Word {
-    match text {
-        "older" => Word::Older,
-        "newer" => Word::Newer,
-        "grown" => Word::Grown,
-        _ => Word::Unknown,
+        self.left.is_empty()
     }
 }

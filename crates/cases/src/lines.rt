@@ -1,22 +1,22 @@
 // Items and descriptions as the cases write them.
-use crate::hex::bytes_of;
-use anyhow::anyhow;
+use anyhow::{Context, anyhow};
 use checked::checked::Checked;
 use rules::faults::{ReadingCause, ReadingFault};
 use rules::items::{Item, Kind};
 use std::alloc::Global;
-use table::load::load;
+
+// The bytes that a text in hexadecimal writes; '-' is no byte.
+pub(crate) fn bytes_of(heap: Global, text: &str) -> anyhow::Result<Vec<u8>> {
+    let digits = if text == "-" { "" } else { text };
+    hex::decode(heap, digits).context("not hexadecimal")
+}
 
 // The description that a text in hexadecimal writes, checked.
 pub(crate) fn description_of(heap: Global, text: &str) -> anyhow::Result<Checked> {
     let bytes = bytes_of(heap, text)?;
-    let Ok(loaded) = load(heap, bytes.as_slice()) else {
-        return Err(anyhow!("a description that does not load"));
-    };
-    match Checked::new(loaded) {
-        Ok(checked) => Ok(checked),
-        Err(_) => Err(anyhow!("a description that is refused")),
-    }
+    Checked::load(heap, bytes.as_slice()).map_err(|fault| anyhow!(
+        "a description that is refused: {fault}"
+    ))
 }
 
 // The numbers of a line.
@@ -35,7 +35,7 @@ pub(crate) fn item_of(heap: Global, line: &str) -> anyhow::Result<Item> {
         return Err(anyhow!("an item of other than seven numbers"));
     };
     Ok(Item {
-        kind: kind_of(*kind)?,
+        kind: Kind::try_from(u16::try_from(*kind)?)?,
         line: u16::try_from(*line)?,
         class: u16::try_from(*class)?,
         index: u16::try_from(*index)?,
@@ -43,16 +43,6 @@ pub(crate) fn item_of(heap: Global, line: &str) -> anyhow::Result<Item> {
         place: u32::try_from(*place)?,
         length: u32::try_from(*length)?,
     })
-}
-
-// The kind of item with a number.
-fn kind_of(number: i64) -> anyhow::Result<Kind> {
-    match number {
-        1 => Ok(Kind::Value),
-        2 => Ok(Kind::Open),
-        3 => Ok(Kind::Close),
-        _ => Err(anyhow!("no such kind of item")),
-    }
 }
 
 // A fault of the line, node and place that four numbers write. Striking asks nothing of the cause.

@@ -3,9 +3,9 @@
 
 mod descriptions;
 mod growth_cases;
-mod hex;
 mod lines;
 mod operators;
+mod tally;
 
 fn main(rt: HostRuntime) -> anyhow::Result<()> {
     run(&rt)

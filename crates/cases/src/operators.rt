@@ -1,12 +1,13 @@
 // Cases of one operator each. A description has three lines: the first two read the operands into names 1 and 2, and the third reads a
 // number that has to be the value of node 4, the operator's, since that is both its lowest and its highest.
-use crate::lines::{description_of, item_of};
+use crate::lines::{bytes_of, description_of, item_of};
+use crate::tally::Tally;
 use anyhow::anyhow;
 use checked::checked::Checked;
 use rules::faults::Failure;
 use std::alloc::{AllocError, Global};
 use std::fs;
-use values::evaluate::evaluate;
+use values::evaluate::Scope;
 
 // The node of the operator, and where the third line reads.
 const OPERATOR: u16 = 4;
@@ -33,17 +34,16 @@ pub(crate) fn run(rt: &HostRuntime) -> anyhow::Result<()> {
         second: 0,
         third: 0,
     };
-    let mut cases = 0u32;
-    let mut differ = 0u32;
+    let mut tally = Tally::default();
     for line in text.as_str().lines() {
         if line.starts_with("case") {
-            cases = cases.saturating_add(1);
+            tally.begin();
         } else if !case.take(rt.alloc(), line)? {
-            differ = differ.saturating_add(1);
-            println!(rt; "operators.txt, case {cases} differs")?;
+            let case = tally.differs();
+            println!(rt; "operators.txt, case {case} differs")?;
         }
     }
-    println!(rt; "operators.txt, by evaluation: {cases} cases, {differ} differ")?;
+    println!(rt; "operators.txt, by evaluation: {tally}")?;
     Ok(())
 }
 
@@ -53,7 +53,7 @@ impl Case {
         if let Some(text) = line.strip_prefix("description ") {
             self.description = Some(description_of(heap, text)?);
         } else if let Some(text) = line.strip_prefix("bits 96 ") {
-            self.third = third_number(text)?;
+            self.third = third_number(heap, text)?;
         } else if line.starts_with("1 1 ") {
             self.first = item_of(heap, line)?.value;
         } else if line.starts_with("1 2 ") {
@@ -75,13 +75,17 @@ impl Case {
             return Err(anyhow!("a case with fewer than three lines"));
         };
         let read = if line.kind == 2 {
-            signed(self.third)
+            i64::from(self.third.cast_signed())
         } else {
             i64::from(self.third)
         };
         let names = [self.first, self.second];
-        let value = evaluate(tables.nodes.as_slice(), &names, 0, OPERATOR);
-        Ok(shown(heap, value, read)?)
+        let scope = Scope {
+            nodes: tables.nodes.as_slice(),
+            names: &names,
+            size: 0,
+        };
+        Ok(shown(heap, scope.value(OPERATOR), read)?)
     }
 }
 
@@ -103,25 +107,11 @@ fn shown(heap: Global, value: Result<i64, Failure>, read: i64) -> Result<String,
     }
 }
 
-// The last eight of 24 hexadecimal digits.
-fn third_number(text: &str) -> anyhow::Result<u32> {
-    let mut number = 0u32;
-    for digit in text.bytes().skip(16) {
-        let value = match digit {
-            b'0'..=b'9' => digit - b'0',
-            b'a'..=b'f' => digit - b'a' + 10,
-            _ => return Err(anyhow!("not hexadecimal")),
-        };
-        number = number.wrapping_mul(16).wrapping_add(u32::from(value));
-    }
-    Ok(number)
-}
-
-// A number of 32 bits in two's complement.
-fn signed(number: u32) -> i64 {
-    if number >= 2147483648 {
-        i64::from(number) - 4294967296
-    } else {
-        i64::from(number)
-    }
+// The number that the last four of some bytes in hexadecimal write.
+fn third_number(heap: Global, text: &str) -> anyhow::Result<u32> {
+    let bytes = bytes_of(heap, text)?;
+    let [.., a, b, c, d] = bytes.as_slice() else {
+        return Err(anyhow!("fewer than four bytes"));
+    };
+    Ok(u32::from_be_bytes([*a, *b, *c, *d]))
 }

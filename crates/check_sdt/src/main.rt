@@ -3,12 +3,10 @@
 
 use anyhow::anyhow;
 use checked::checked::Checked;
+use records::counts::Counts;
 use records::faults::Fault;
-use std::alloc::Global;
 use std::process::ExitCode;
 use std::{env, fs};
-use table::load::load;
-use table::loaded::Loaded;
 
 const HELP: &str = "usage: check [FILE]
 
@@ -63,35 +61,20 @@ fn check(rt: &HostRuntime, name: &str) -> anyhow::Result<()> {
             return Err(anyhow!("unreadable"));
         }
     };
-    match checked(rt.alloc(), bytes.as_slice()) {
-        Ok(checked) => accept(rt, checked.tables()),
+    match Checked::load(rt.alloc(), bytes.as_slice()) {
+        Ok(checked) => accept(rt, checked.tables().counts()),
         Err(fault) => refuse(rt, fault),
     }
 }
 
-// The checked description that a file holds, or its first fault.
-fn checked(heap: Global, bytes: &[u8]) -> Result<Checked, Fault> {
-    Checked::new(load(heap, bytes)?)
-}
-
-fn accept(rt: &HostRuntime, loaded: &Loaded) -> anyhow::Result<()> {
-    let classes = loaded.classes.len();
-    let names = loaded.names.len();
-    let extensions = loaded.extensions.len();
-    let lines = loaded.lines.len();
-    let nodes = loaded.nodes.len();
-    let maps = loaded.maps.len();
-    let rows = loaded.rows.len();
-    println!(rt; "accepted {classes} {names} {extensions} {lines} {nodes} {maps} {rows}")?;
+fn accept(rt: &HostRuntime, counts: Counts) -> anyhow::Result<()> {
+    println!(rt; "accepted {counts}")?;
     Ok(())
 }
 
 fn refuse(rt: &HostRuntime, fault: Fault) -> anyhow::Result<()> {
     let cause = fault.cause;
-    let number = cause.number();
-    let table = fault.table.number();
-    let record = fault.record;
-    println!(rt; "refused {number} {table} {record}")?;
+    println!(rt; "refused {fault}")?;
     eprintln!(rt; "{cause}")?;
     Err(anyhow!("refused"))
 }

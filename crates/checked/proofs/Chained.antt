@@ -8,16 +8,17 @@ use Rattle.owners.specs.Lines.{class_of_line}
 use Rattle.owners.specs.Ranks.{not_below, uses_wrong}
 use Rattle.checked.specs.Chains.{MakesObject, Uses, Chain, ChainsLaw}
 use Rattle.checked.specs.Faultless.{Faultless}
-use Rattle.checked.proofs.Held.{faultless, no_some, and_rest}
+use Rattle.table.proofs.Scans.{no_some}
+use Rattle.checked.proofs.Held.{faultless, and_rest}
 use Rattle.checked.proofs.Numbered.{some_number, class_parts}
 
 module _ (d : Description) (ok : Faultless d) where
   pub made_below : (user : ℕ) (s : Statement) → uses_wrong d user s ≡ false → (u : ℕ) → 0 < u → u ≤ length d.classes → MakesObject d s u → (class_at d u).rank < (class_at d user).rank
-  made_below user (Read signed width name count alignment ahead lowest highest) e u a b h = absurd h
+  made_below user (Read fields) e u a b h = absurd h
   made_below user (Assign name node) e u a b h = absurd h
   made_below user (MapRead map name) e u a b h = absurd h
-  made_below user (Use class count least most carried receiving) e u a b h =
-      leb-false _ _ (and_rest _ _ (no_some (not_below d user class) (length d.classes) e u a b) h)
+  made_below user (Use fields) e u a b h =
+      leb-false _ _ (and_rest _ _ (no_some (not_below d user fields.class) (length d.classes) e u a b) h)
   made_below user (If node first second) e u a b h = absurd h
   made_below user (While node lines rounds) e u a b h = absurd h
   made_below user Unknown e u a b h = absurd h

@@ -1,6 +1,7 @@
 -- The first fault is the first that the rules name.
-use Rattle.std.proofs.Common.{◌≡◌, ℕ, zero, suc, ◌<◌, ◌≤◌, Bool, true, false, ◌&&◌, ◌||◌, eqb, ltb, ◌⊎◌, List, [], ◌∷◌, ◌++◌, length, Some, None, Option, sym, refl, ap, inl, inr, arith, ltb-true, eqb-true}
+use Rattle.std.proofs.Common.{◌≡◌, ℕ, zero, suc, ◌<◌, ◌≤◌, Bool, true, false, ◌&&◌, ◌||◌, eqb, ltb, ◌⊎◌, List, [], ◌∷◌, ◌++◌, length, Some, None, Option, sym, refl, ap, ◌∙◌, inl, inr, arith, ltb-true, eqb-true}
 use Rattle.std.proofs.lemmas.Bool.Decides.{leb_tells}
+use Rattle.std.proofs.lemmas.Bool.{and_parts, true≢false, false≢true}
 use Rattle.records.specs.Causes.{cause_number, table_number}
 use Rattle.records.specs.declared.faults.Cause.{Cause}
 use Rattle.records.specs.declared.faults.Cause.TheVariants.{Field, Stretch, Depth, Rank, Owner, Place}
@@ -37,7 +38,7 @@ finds_more p count None true e f = (
 finds_more p count None false e f =
     λ m h. elim (leb_tells m count) [
       | inl t ↦ f m (h.0, t.1, h.2)
-      | inr t ↦ let q : m ≡ suc count = omega (arith, t.1, h.1) in let z : ◌≡◌ {A = ℕ} 0 1 = cc (h.2, ap p q) in omega arith
+      | inr t ↦ let q : m ≡ suc count = omega (arith, t.1, h.1) in true≢false (sym h.2 ∙ ap p q ∙ e)
     ]
 
 pub finds_each : (p : ℕ → Bool) (count : ℕ) → Finds (λ n. (0 < n) × (n ≤ count) × (p n ≡ true)) (first_upto p count)
@@ -47,7 +48,7 @@ finds_each p (suc count) = finds_more p count (first_upto p count) (p (suc count
 
 finds_top : (b : Bool) → Finds (λ n. (n ≡ 0) × (b ≡ true)) (when b 0)
 finds_top true = ((refl, refl), λ m h. omega arith)
-finds_top false = λ m h. let z : ◌≡◌ {A = ℕ} 0 1 = cc h.1 in omega arith
+finds_top false = λ m h. false≢true h.1
 
 -- one rule
 alone : (r : Rule) (o : Option ℕ) → Finds r.names o → Says (r ∷ []) (named r.cause r.table o)
@@ -89,28 +90,24 @@ abbrev Ahead : Cause → Table → Cause → Table → Type 0
 Ahead cause table cause' table' =
     (cause_number cause < cause_number cause') ⊎ ((cause_number cause ≡ cause_number cause') × (table_number table < table_number table'))
 
-both : (a b : Bool) → (a && b) ≡ true → (a ≡ true) × (b ≡ true)
-both true b e = (refl, e)
-both false b e = absurd (let z : ◌≡◌ {A = ℕ} 0 1 = cc in omega arith)
-
 numbers_ahead : (m t n u : ℕ) → (ltb m n || eqb m n && ltb t u) ≡ true → (m < n) ⊎ ((m ≡ n) × (t < u))
 numbers_ahead m t n u e =
     elim (leb_tells (suc m) n) [
       | inl h ↦ inl h.1
-      | inr h ↦ let k = both (eqb m n) (ltb t u) (rw h.0 at e) in inr (eqb-true m n k.0, ltb-true t u k.1)
+      | inr h ↦ let k = and_parts (eqb m n) (ltb t u) (rw h.0 at e) in inr (eqb-true m n k.0, ltb-true t u k.1)
     ]
 
 ahead-all : (cause : Cause) (table : Table) (ss : List Rule) (cause' : Cause) (table' : Table) (n : ℕ) → after cause table ss ≡ true → Breaks ss cause' table' n → Ahead cause table cause' table'
 ahead-all cause table [] cause' table' n e b = absurd b
 ahead-all cause table (s ∷ ss) cause' table' n e (inl h) =
-    rw (sym h.0, sym h.1) (numbers_ahead (cause_number cause) (table_number table) (cause_number s.cause) (table_number s.table) (both _ _ e).0)
-ahead-all cause table (s ∷ ss) cause' table' n e (inr h) = ahead-all cause table ss cause' table' n (both _ _ e).1 h
+    rw (sym h.0, sym h.1) (numbers_ahead (cause_number cause) (table_number table) (cause_number s.cause) (table_number s.table) (and_parts _ _ e).0)
+ahead-all cause table (s ∷ ss) cause' table' n e (inr h) = ahead-all cause table ss cause' table' n (and_parts _ _ e).1 h
 
 apart-all : (rs ss : List Rule) (cause : Cause) (table : Table) (m : ℕ) (cause' : Cause) (table' : Table) (n : ℕ) → apart rs ss ≡ true → Breaks rs cause table m → Breaks ss cause' table' n → Ahead cause table cause' table'
 apart-all [] ss cause table m cause' table' n e a b = absurd a
 apart-all (r ∷ rs) ss cause table m cause' table' n e (inl h) b =
-    rw (sym h.0, sym h.1) (ahead-all r.cause r.table ss cause' table' n (both _ _ e).0 b)
-apart-all (r ∷ rs) ss cause table m cause' table' n e (inr h) b = apart-all rs ss cause table m cause' table' n (both _ _ e).1 h b
+    rw (sym h.0, sym h.1) (ahead-all r.cause r.table ss cause' table' n (and_parts _ _ e).0 b)
+apart-all (r ∷ rs) ss cause table m cause' table' n e (inr h) b = apart-all rs ss cause table m cause' table' n (and_parts _ _ e).1 h b
 
 no_later : (f : Fault) (cause : Cause) (table : Table) (n : ℕ) → Ahead f.cause f.table cause table → NoLater f cause table n
 no_later f cause table n (inl h) = inl h

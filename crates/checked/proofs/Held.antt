@@ -1,17 +1,17 @@
 -- What follows where no fault is found: no rule is broken, and a line is in one stretch.
 use Rattle.std.proofs.Common.{◌≡◌, ℕ, zero, suc, ◌+◌, ◌<◌, ◌≤◌, Bool, true, false, cond, ◌&&◌, List, [], ◌∷◌, length, Some, None, Option, sym, refl, ap, ◌∙◌, subst, inl, inr, arith, eqb-true}
 use Rattle.std.proofs.lemmas.Bool.Decides.{leb_tells}
-use Rattle.std.proofs.lemmas.Bool.{cases_Bool, not-false, or_parts}
+use Rattle.std.proofs.lemmas.Bool.{cases_Bool, false≢true, not-false, or_parts}
 use Rattle.records.specs.declared.faults.Cause.{Cause}
 use Rattle.records.specs.declared.faults.Table.{Table}
 use Rattle.records.specs.declared.faults.Fault.{Fault}
 use Rattle.table.specs.Description.{Description, extension_at}
-use Rattle.table.specs.First.{or_else, when, is_some, first_upto, some_upto, count_upto}
+use Rattle.table.specs.First.{or_else, when, first_upto, count_upto}
 use Rattle.blocks.specs.Stretches.{in_class, in_extension, in_one}
 use Rattle.owners.specs.Lines.{class_of_line}
 use Rattle.checked.specs.Law.{Rule, rules, Breaks, Says}
 use Rattle.checked.specs.Faultless.{Unbroken, Faultless, FaultlessLaw}
-use Rattle.checked.proofs.Firsts.{Finds, finds_each, first_fault_law}
+use Rattle.checked.proofs.Firsts.{first_fault_law}
 
 -- rule by rule
 abbrev Held : List Rule → Type 0
@@ -86,17 +86,9 @@ only_found p c passes low (suc n) h l =
           rw (none_found p n (omega arith), e) (ap Some (sym q))
     ]
 
--- Where none passes the test.
-not_found : (names : ℕ → Type 0) (o : Option ℕ) → Finds names o → is_some o ≡ false → (m : ℕ) → names m → ⊥
-not_found names (Some x) f e m h = let z : ◌≡◌ {A = ℕ} 0 1 = cc in omega arith
-not_found names None f e m h = f m h
-
-pub no_some : (p : ℕ → Bool) (n : ℕ) → some_upto p n ≡ false → (u : ℕ) → 0 < u → u ≤ n → p u ≡ false
-no_some p n e = unbroken n p (not_found _ (first_upto p n) (finds_each p n) e)
-
 pub and_rest : (x y : Bool) → (x && y) ≡ false → x ≡ true → y ≡ false
 and_rest true y e h = e
-and_rest false y e h = let z : ◌≡◌ {A = ℕ} 0 1 = cc in absurd (omega arith)
+and_rest false y e h = absurd (false≢true h)
 
 -- A line that is in one stretch has the class of that stretch.
 module _ (d : Description) (n : ℕ) (one : in_one d n ≡ true) where
@@ -116,8 +108,3 @@ module _ (d : Description) (n : ℕ) (one : in_one d n ≡ true) where
 
 pub in_one-holds : (d : Description) → Faultless d → (n : ℕ) → 0 < n → n ≤ length d.lines → in_one d n ≡ true
 in_one-holds d ok n low high = not-false (in_one d n) (or_parts _ _ (ok.line_stretches n low high)).0
-
--- A description whose first fault is not some fault has none.
-pub none_left : {A : Type 0} (o : Option A) → is_some o ≡ false → o ≡ None
-none_left (Some x) e = let z : ◌≡◌ {A = ℕ} 0 1 = cc in absurd (omega arith)
-none_left None e = refl

@@ -12,7 +12,8 @@ use Rattle.blocks.specs.Stretches.{in_one, past, past_block, past_in, past_in_cl
 use Rattle.blocks.proofs.Steps.{sound_step, sound_none}
 use Rattle.blocks.proofs.Fits.{Kept}
 use Rattle.checked.specs.Faultless.{Faultless, NestsLaw}
-use Rattle.checked.proofs.Held.{faultless, no_some, and_rest}
+use Rattle.table.proofs.Scans.{no_some}
+use Rattle.checked.proofs.Held.{faultless, and_rest}
 use Rattle.checked.proofs.Numbered.{in_table, class_parts, extension_parts}
 
 pub held_in : (first number m : ℕ) → first ≤ m → m < first + number → in_stretch first number m ≡ true

@@ -115,7 +115,3 @@ from_zero P count z h (suc n) l = h (suc n) (omega arith) l
 pub TIs : (b : Bool) → T b → b ≡ true
 TIs true t = refl
 TIs false t = absurd t
-
-pub is_T : (b : Bool) → b ≡ true → T b
-is_T true e = tt
-is_T false e = let z : ◌≡◌ {A = ℕ} 0 1 = cc in absurd (omega arith)

@@ -1,11 +1,13 @@
 -- The class of a line, and the names that it takes.
 use Rattle.std.proofs.Common.{◌≡◌, ℕ, ◌<◌, Bool, true, false, not, ◌&&◌, eqb, length, arith, ne_eqb}
+use Rattle.records.specs.Statements.{written}
 use Rattle.std.proofs.lemmas.Bool.{not-false, or_parts}
 use Rattle.table.specs.Description.{statement_at, node_at}
 use Rattle.owners.specs.Lines.{class_of_line}
-use Rattle.owners.specs.Names.{owned_by, written, takes_wrong}
+use Rattle.owners.specs.Names.{owned_by, takes_wrong}
 use Rattle.checked.specs.Faultless.{OwnsLaw}
-use Rattle.checked.proofs.Held.{faultless, no_some, and_rest, of_class, of_extension, in_one-holds}
+use Rattle.table.proofs.Scans.{no_some}
+use Rattle.checked.proofs.Held.{faultless, and_rest, of_class, of_extension, in_one-holds}
 
 writes_owned : (name : ℕ) (owned : Bool) → (not (eqb name 0) && not owned) ≡ false → 0 < name → owned ≡ true
 writes_owned name owned e h =

@@ -1,6 +1,7 @@
 -- What a line uses ranks below the line's class.
-use Rattle.std.proofs.Common.{◌≡◌, ℕ, zero, suc, ◌+◌, ◌<◌, ◌≤◌, Bool, true, false, not, ◌&&◌, ◌||◌, T, eqb, leb, List, length, refl, subst, inl, inr, arith, eq-eqb, leb-true}
-use Rattle.std.proofs.lemmas.Bool.{not-false, and_parts, or_parts}
+use Rattle.std.proofs.Common.{◌≡◌, ℕ, zero, suc, ◌+◌, ◌<◌, ◌≤◌, Bool, true, false, not, ◌&&◌, T, eqb, leb, List, length, sym, refl, ◌∙◌, subst, inl, inr, arith, eq-eqb, leb-true}
+use Rattle.std.proofs.lemmas.Bool.{true≢false, not-false, and_parts, or_parts, or_right}
+use Rattle.std.proofs.lemmas.Float.{T_from_false}
 use Rattle.std.proofs.lemmas.Bool.Decides.{leb_tells}
 use Rattle.records.specs.Classes.{is_base, is_member}
 use Rattle.records.specs.Statements.{statement}
@@ -10,7 +11,7 @@ use Rattle.records.specs.declared.statements.Statement.TheVariants.{Read, Assign
 use Rattle.fields.specs.Values.{names_one}
 use Rattle.fields.specs.Lines.{read_nodes_fine, use_fine, limits_fine, statement_fine}
 use Rattle.table.specs.Description.{Description, entry, no_class, no_extension, class_at, extension_at, line_at, statement_at, node_at, counts_of}
-use Rattle.table.proofs.Scans.{entry_zero, entry_none}
+use Rattle.table.proofs.Scans.{entry_zero, entry_none, no_some}
 use Rattle.owners.specs.Lines.{class_of_line}
 use Rattle.owners.specs.Ranks.{used_by}
 use Rattle.places.specs.Classes.{later, names_as_later}
@@ -18,7 +19,7 @@ use Rattle.places.specs.Uses.{statement_wrong}
 use Rattle.checked.specs.Chains.{MakesObject}
 use Rattle.checked.specs.Faultless.{Faultless}
 use Rattle.checked.specs.Sound.{Below, LineRanked, Ranked, RankedLaw}
-use Rattle.checked.proofs.Held.{faultless, no_some, and_rest, of_class, of_extension, in_one-holds}
+use Rattle.checked.proofs.Held.{faultless, and_rest, of_class, of_extension, in_one-holds}
 use Rattle.checked.proofs.Nest.{held_in}
 use Rattle.checked.proofs.Numbered.{some_number, in_table, base_there, no_base, extension_parts, operands, known_kind, TIs}
 use Rattle.checked.proofs.Chained.{made_below}
@@ -37,16 +38,8 @@ no_T : (b : Bool) → T (not b) → b ≡ false
 no_T true t = absurd t
 no_T false t = refl
 
-T_not : (b : Bool) → b ≡ false → T (not b)
-T_not true e = let z : ◌≡◌ {A = ℕ} 0 1 = cc in absurd (omega arith)
-T_not false e = tt
-
-or_right : (a b : Bool) → b ≡ true → (a || b) ≡ true
-or_right true b e = refl
-or_right false b e = e
-
 and_first : (x y : Bool) → (x && y) ≡ false → y ≡ true → x ≡ false
-and_first true y e h = let z : ◌≡◌ {A = ℕ} 0 1 = cc in absurd (omega arith)
+and_first true y e h = absurd (true≢false (sym h ∙ e))
 and_first false y e h = refl
 
 later_there : (m n count : ℕ) → 0 < m → m ≤ count → n ≤ count → (0 < later m n) × (later m n ≤ count)
@@ -80,7 +73,7 @@ module _ (d : Description) (ok : Faultless d) where
       record {
         some = low;
         there = high;
-        no_member = T_not _ member;
+        no_member = T_from_false _ member;
         own = below class low high (uses_itself class);
         members = anywhere d.classes no_class (λ (x : Class). T (is_member x) → x.base ≡ class → x.rank < rank)
             (λ t e. absurd t)
@@ -88,23 +81,23 @@ module _ (d : Description) (ok : Faultless d) where
       }
 
   line_ranked : (rank : ℕ) (s : Statement) → statement_fine (counts_of d) s ≡ true → statement_wrong d s ≡ false → ((u : ℕ) → 0 < u → u ≤ length d.classes → MakesObject d s u → (class_at d u).rank < rank) → LineRanked d rank s
-  line_ranked rank (Read signed width name count alignment ahead lowest highest) e w below =
+  line_ranked rank (Read fields) e w below =
       let counts = counts_of d in
-      let f = (and_parts (read_nodes_fine counts width count lowest highest) _ e).0 in
-      let p = and_parts (names_one width counts.nodes && leb count counts.nodes && leb lowest counts.nodes) _ f in
-      let q = and_parts (names_one width counts.nodes && leb count counts.nodes) _ p.0 in
-      let r = and_parts (names_one width counts.nodes) _ q.0 in
-      (some_number width (length d.nodes) r.0, leb-true count _ r.1, leb-true lowest _ q.1, leb-true highest _ p.1)
+      let f = (and_parts (read_nodes_fine counts fields) _ e).0 in
+      let p = and_parts (names_one fields.width counts.nodes && leb fields.count counts.nodes && leb fields.lowest counts.nodes) _ f in
+      let q = and_parts (names_one fields.width counts.nodes && leb fields.count counts.nodes) _ p.0 in
+      let r = and_parts (names_one fields.width counts.nodes) _ q.0 in
+      (some_number fields.width (length d.nodes) r.0, leb-true fields.count _ r.1, leb-true fields.lowest _ q.1, leb-true fields.highest _ p.1)
   line_ranked rank (Assign name node) e w below =
       some_number node (length d.nodes) (and_parts (names_one name (length d.names)) _ e).1
   line_ranked rank (MapRead map name) e w below = tt
-  line_ranked rank (Use class count least most carried receiving) e w below =
+  line_ranked rank (Use fields) e w below =
       let counts = counts_of d in
-      let p = (and_parts (use_fine counts class count && limits_fine count least most) _ e).0 in
-      let q = (and_parts (use_fine counts class count) _ p).0 in
-      let r = and_parts (names_one class counts.classes) _ q in
-      let n = some_number class (length d.classes) r.0 in
-      (leb-true count _ r.1, below_rank rank class n.0 n.1 (or_parts _ _ w).0 below)
+      let p = (and_parts (use_fine counts fields && limits_fine fields) _ e).0 in
+      let q = (and_parts (use_fine counts fields) _ p).0 in
+      let r = and_parts (names_one fields.class counts.classes) _ q in
+      let n = some_number fields.class (length d.classes) r.0 in
+      (leb-true fields.count _ r.1, below_rank rank fields.class n.0 n.1 (or_parts _ _ w).0 below)
   line_ranked rank (If node first second) e w below = some_number node (length d.nodes) e
   line_ranked rank (While node lines rounds) e w below =
       some_number node (length d.nodes) (and_parts (names_one node (length d.nodes)) _ e).0
@@ -136,7 +129,7 @@ module _ (d : Description) (ok : Faultless d) where
             (λ c low high t. no_base (counts_of d) (class_at d c) (class_is_fine d ok c low high).base (no_T _ t));
         top =
             let t = some_number d.top (length d.classes) (not-false _ ok.top_there) in
-            (t.0, t.1, T_not _ ok.top_no_member);
+            (t.0, t.1, T_from_false _ ok.top_no_member);
         lines = anywhere d.classes no_class (λ (x : Class). (n : ℕ) → x.first ≤ n → n < x.first + x.number → LineRanked d x.rank (statement (line_at d n)))
             (λ n a b. absurd (omega arith))
             class_lines;

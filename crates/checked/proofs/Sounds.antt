@@ -1,7 +1,7 @@
 -- What records name is there.
 use Rattle.std.proofs.Common.{◌≡◌, ℕ, zero, suc, ◌+◌, ◌<◌, ◌≤◌, Bool, true, false, cond, not, ◌&&◌, T, eqb, ltb, leb, ◌⊎◌, List, [], ◌∷◌, length, sym, refl, ap, ◌∙◌, subst, inl, inr, add_assoc, arith, ltb-true, lt-ltb, ne_eqb, eqb-true, leb-true}
 use borrow.Author.Tests.{eqb-false}
-use Rattle.std.proofs.lemmas.Bool.{not-false, and_parts, or_parts, both_ways}
+use Rattle.std.proofs.lemmas.Bool.{true≢false, not-false, and_parts, or_parts, both_ways}
 use Rattle.records.specs.Classes.{is_plain, is_base, is_member}
 use Rattle.records.specs.Statements.{statement}
 use Rattle.records.specs.declared.records.Class.{Class}
@@ -86,8 +86,8 @@ once d ok n low high =
 
 -- an expandable class that is no base has a greatest size, its own or its base's
 found : (d : Description) (n : ℕ) (p s m b : Bool) (g base : ℕ) → (p ≡ true → m ≡ false) → s ≡ false → (class_at d 0).greatest ≡ 0 → ltb 0 (cond p g (class_at d (cond s n (cond (m && b) base 0))).greatest) ≡ true → 0 < cond m (class_at d base).greatest g
-found d n p true m b g base h e z q = let z : ◌≡◌ {A = ℕ} 0 1 = cc in absurd (omega arith)
-found d n true false true b g base h e z q = let z : ◌≡◌ {A = ℕ} 0 1 = cc (h refl) in absurd (omega arith)
+found d n p true m b g base h e z q = absurd (true≢false e)
+found d n true false true b g base h e z q = absurd (true≢false (h refl))
 found d n true false false b g base h e z q = ltb-true 0 g q
 found d n false false true true g base h e z q = ltb-true 0 _ q
 found d n false false true false g base h e z q = let l = ltb-true 0 (class_at d 0).greatest q in absurd (omega arith)
@@ -129,25 +129,25 @@ no_carry d class carried receiving low e (inl z) base g =
 
 -- what a line names
 line_sound : (d : Description) (s : Statement) → statement_fine (counts_of d) s ≡ true → carries_wrong d s ≡ false → LineSound d s
-line_sound d (Read signed width name count alignment ahead lowest highest) e c =
+line_sound d (Read fields) e c =
     let counts = counts_of d in
-    let f = (and_parts (read_nodes_fine counts width count lowest highest) _ e).0 in
-    let p = and_parts (names_one width counts.nodes && leb count counts.nodes && leb lowest counts.nodes) _ f in
-    let q = and_parts (names_one width counts.nodes && leb count counts.nodes) _ p.0 in
-    let r = and_parts (names_one width counts.nodes) _ q.0 in
-    ((some_number width (length d.nodes) r.0).1, leb-true count _ r.1, leb-true lowest _ q.1, leb-true highest _ p.1)
+    let f = (and_parts (read_nodes_fine counts fields) _ e).0 in
+    let p = and_parts (names_one fields.width counts.nodes && leb fields.count counts.nodes && leb fields.lowest counts.nodes) _ f in
+    let q = and_parts (names_one fields.width counts.nodes && leb fields.count counts.nodes) _ p.0 in
+    let r = and_parts (names_one fields.width counts.nodes) _ q.0 in
+    ((some_number fields.width (length d.nodes) r.0).1, leb-true fields.count _ r.1, leb-true fields.lowest _ q.1, leb-true fields.highest _ p.1)
 line_sound d (Assign name node) e c =
     (some_number node (length d.nodes) (and_parts (names_one name (length d.names)) _ e).1).1
 line_sound d (MapRead map name) e c =
     (some_number map (length d.maps) (and_parts (names_one map (length d.maps)) _ e).0).1
-line_sound d (Use class count least most carried receiving) e c =
+line_sound d (Use fields) e c =
     let counts = counts_of d in
-    let p = and_parts (use_fine counts class count && limits_fine count least most) _ e in
-    let q = and_parts (use_fine counts class count) _ p.0 in
-    let r = and_parts (names_one class counts.classes) _ q.0 in
-    let n = some_number class (length d.classes) r.0 in
-    let k = carry_step (eqb carried 0) carried receiving (length d.names) refl p.1 in
-    (n.1, leb-true count _ r.1, k.0, no_carry d class carried receiving n.0 c k.1)
+    let p = and_parts (use_fine counts fields && limits_fine fields) _ e in
+    let q = and_parts (use_fine counts fields) _ p.0 in
+    let r = and_parts (names_one fields.class counts.classes) _ q.0 in
+    let n = some_number fields.class (length d.classes) r.0 in
+    let k = carry_step (eqb fields.carried 0) fields.carried fields.receiving (length d.names) refl p.1 in
+    (n.1, leb-true fields.count _ r.1, k.0, no_carry d fields.class fields.carried fields.receiving n.0 c k.1)
 line_sound d (If node first second) e c = (some_number node (length d.nodes) e).1
 line_sound d (While node lines rounds) e c =
     (some_number node (length d.nodes) (and_parts (names_one node (length d.nodes)) _ e).0).1

@@ -9,10 +9,10 @@ use Rattle.checked.specs.Check.{first_fault}
 
 -- a line can make an object whose lines are those of class u: u is the used class, or a member of it
 abbrev pub MakesObject : Description → Statement → (u : ℕ) → Type 0
-MakesObject d (Read signed width name count alignment ahead lowest highest) u = ⊥
+MakesObject d (Read fields) u = ⊥
 MakesObject d (Assign name node) u = ⊥
 MakesObject d (MapRead map name) u = ⊥
-MakesObject d (Use class count least most carried receiving) u = used_by d class u ≡ true
+MakesObject d (Use fields) u = used_by d fields.class u ≡ true
 MakesObject d (If node first second) u = ⊥
 MakesObject d (While node lines rounds) u = ⊥
 MakesObject d Unknown u = ⊥

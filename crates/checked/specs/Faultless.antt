@@ -1,5 +1,6 @@
 -- A description without a fault: no rule is broken at any record. What that says of blocks and names.
 use Rattle.std.specs.Prelude.{◌≡◌, ℕ, ◌<◌, ◌≤◌, Bool, true, false, length, None}
+use Rattle.records.specs.Statements.{written}
 use Rattle.fields.specs.Nodes.{takes_name}
 use Rattle.table.specs.Description.{Description, class_at, extension_at, statement_at, node_at}
 use Rattle.table.specs.Fields.{top_field, class_field, name_field, extension_field, line_field, node_field, map_field}
@@ -7,7 +8,7 @@ use Rattle.blocks.specs.Nesting.{block_sound}
 use Rattle.blocks.specs.Stretches.{line_stretch, line_depth, node_depth, in_class, in_extension}
 use Rattle.owners.specs.Lines.{class_of_line}
 use Rattle.owners.specs.Ranks.{line_rank}
-use Rattle.owners.specs.Names.{owned_by, written, line_owner, node_owner}
+use Rattle.owners.specs.Names.{owned_by, line_owner, node_owner}
 use Rattle.owners.specs.Reach.{reaches, line_has}
 use Rattle.places.specs.Classes.{class_place}
 use Rattle.places.specs.Uses.{top_place, extension_place, line_place}

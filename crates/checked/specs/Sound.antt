@@ -20,13 +20,13 @@ greatest d n = cond (is_member (class_at d n)) (class_at d (class_at d n).base).
 
 -- the numbers of a line are those of records that are there; a use of an expandable family carries nothing
 abbrev pub LineSound : Description → Statement → Type 0
-LineSound d (Read signed width name count alignment ahead lowest highest) =
-    (width ≤ length d.nodes) × (count ≤ length d.nodes) × (lowest ≤ length d.nodes) × (highest ≤ length d.nodes)
+LineSound d (Read fields) =
+    (fields.width ≤ length d.nodes) × (fields.count ≤ length d.nodes) × (fields.lowest ≤ length d.nodes) × (fields.highest ≤ length d.nodes)
 LineSound d (Assign name node) = node ≤ length d.nodes
 LineSound d (MapRead map name) = map ≤ length d.maps
-LineSound d (Use class count least most carried receiving) =
-    (class ≤ length d.classes) × (count ≤ length d.nodes) × (carried ≤ length d.names) ×
-    (T (is_base (class_at d class)) → 0 < greatest d class → receiving ≡ 0)
+LineSound d (Use fields) =
+    (fields.class ≤ length d.classes) × (fields.count ≤ length d.nodes) × (fields.carried ≤ length d.names) ×
+    (T (is_base (class_at d fields.class)) → 0 < greatest d fields.class → fields.receiving ≡ 0)
 LineSound d (If node first second) = node ≤ length d.nodes
 LineSound d (While node lines rounds) = node ≤ length d.nodes
 LineSound d Unknown = Unit {0}
@@ -79,11 +79,11 @@ There d k = (0 < k) × (k ≤ length d.nodes)
 
 -- a line of a class of a rank: its compulsory nodes are there, and what it uses has a lower rank
 abbrev pub LineRanked : Description → (rank : ℕ) → Statement → Type 0
-LineRanked d rank (Read signed width name count alignment ahead lowest highest) =
-    There d width × (count ≤ length d.nodes) × (lowest ≤ length d.nodes) × (highest ≤ length d.nodes)
+LineRanked d rank (Read fields) =
+    There d fields.width × (fields.count ≤ length d.nodes) × (fields.lowest ≤ length d.nodes) × (fields.highest ≤ length d.nodes)
 LineRanked d rank (Assign name node) = There d node
 LineRanked d rank (MapRead map name) = Unit {0}
-LineRanked d rank (Use class count least most carried receiving) = (count ≤ length d.nodes) × Below d rank class
+LineRanked d rank (Use fields) = (fields.count ≤ length d.nodes) × Below d rank fields.class
 LineRanked d rank (If node first second) = There d node
 LineRanked d rank (While node lines rounds) = There d node
 LineRanked d rank Unknown = Unit {0}

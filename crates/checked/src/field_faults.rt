@@ -1,12 +1,17 @@
-ghost use Rattle.std.specs.Prelude.{◌≡◌};
+ghost use Rattle.std.specs.Prelude.{◌≡◌, length};
+ghost use Rattle.records.specs.declared.faults.Cause.TheVariants.{Field};
 ghost use Rattle.table.specs.Description.{description};
-ghost use Rattle.checked.specs.Fields.{top_field_fault, class_field_fault, name_field_fault, extension_field_fault, line_field_fault, node_field_fault, map_field_fault, field_fault};
+ghost use Rattle.table.specs.Fields.{broken_at};
+ghost use Rattle.table.specs.First.{first_upto};
+ghost use Rattle.passes.specs.Naming.{named};
+ghost use Rattle.checked.specs.Fields.{top_field_fault, field_fault};
 
 use fields::tables::top_fine;
 use passes::naming::{named, of_top};
+use records::counts::Counts;
 use records::faults::{Cause, Fault, Table};
 use table::loaded::Loaded;
-use table::record::first_broken;
+use table::record::{Record, first_broken};
 
 // Whether the top class is not there, as a fault.
 fn top_field_fault(loaded: &Loaded) -> Option<Fault>
@@ -15,93 +20,23 @@ fn top_field_fault(loaded: &Loaded) -> Option<Fault>
     of_top(Cause::Field, !top_fine(loaded.counts(), loaded.top))
 }
 
-// The first class whose fields are not fine.
-fn class_field_fault(loaded: &Loaded) -> Option<Fault>
-    ensures { result ≡ class_field_fault (description loaded.now) }
+// The first record of a table whose fields are not fine, whatever the kind.
+fn table_field_fault<R: Record>(table: Table, records: &[R], counts: Counts) -> Option<Fault>
+    ensures { result ≡ named Field table (first_upto (broken_at (R.broken counts) R.none records.now) (length records.now)) }
 {
-    named(
-        Cause::Field,
-        Table::Classes,
-        first_broken(&loaded.classes, loaded.counts()),
-    )
-}
-
-// The first name whose fields are not fine.
-fn name_field_fault(loaded: &Loaded) -> Option<Fault>
-    ensures { result ≡ name_field_fault (description loaded.now) }
-{
-    named(
-        Cause::Field,
-        Table::Names,
-        first_broken(&loaded.names, loaded.counts()),
-    )
-}
-
-// The first extension whose fields are not fine.
-fn extension_field_fault(loaded: &Loaded) -> Option<Fault>
-    ensures { result ≡ extension_field_fault (description loaded.now) }
-{
-    named(
-        Cause::Field,
-        Table::Extensions,
-        first_broken(&loaded.extensions, loaded.counts()),
-    )
-}
-
-// The first line whose fields are not fine.
-fn line_field_fault(loaded: &Loaded) -> Option<Fault>
-    ensures { result ≡ line_field_fault (description loaded.now) }
-{
-    named(
-        Cause::Field,
-        Table::Lines,
-        first_broken(&loaded.lines, loaded.counts()),
-    )
-}
-
-// The first node whose fields are not fine.
-fn node_field_fault(loaded: &Loaded) -> Option<Fault>
-    ensures { result ≡ node_field_fault (description loaded.now) }
-{
-    named(
-        Cause::Field,
-        Table::Nodes,
-        first_broken(&loaded.nodes, loaded.counts()),
-    )
-}
-
-// The first map whose fields are not fine.
-fn map_field_fault(loaded: &Loaded) -> Option<Fault>
-    ensures { result ≡ map_field_fault (description loaded.now) }
-{
-    named(
-        Cause::Field,
-        Table::Maps,
-        first_broken(&loaded.maps, loaded.counts()),
-    )
+    named(Cause::Field, table, first_broken(records, counts))
 }
 
 // The first record whose fields are not fine; any row will do.
 pub fn field_fault(loaded: &Loaded) -> Option<Fault>
     ensures { result ≡ field_fault (description loaded.now) }
 {
-    if let Some(fault) = top_field_fault(loaded) {
-        return Some(fault);
-    }
-    if let Some(fault) = class_field_fault(loaded) {
-        return Some(fault);
-    }
-    if let Some(fault) = name_field_fault(loaded) {
-        return Some(fault);
-    }
-    if let Some(fault) = extension_field_fault(loaded) {
-        return Some(fault);
-    }
-    if let Some(fault) = line_field_fault(loaded) {
-        return Some(fault);
-    }
-    if let Some(fault) = node_field_fault(loaded) {
-        return Some(fault);
-    }
-    map_field_fault(loaded)
+    let counts = loaded.counts();
+    top_field_fault(loaded)
+        .or_else(|| table_field_fault(Table::Classes, &loaded.classes, counts))
+        .or_else(|| table_field_fault(Table::Names, &loaded.names, counts))
+        .or_else(|| table_field_fault(Table::Extensions, &loaded.extensions, counts))
+        .or_else(|| table_field_fault(Table::Lines, &loaded.lines, counts))
+        .or_else(|| table_field_fault(Table::Nodes, &loaded.nodes, counts))
+        .or_else(|| table_field_fault(Table::Maps, &loaded.maps, counts))
 }

@@ -14,22 +14,12 @@ use table::loaded::Loaded;
 fn by_rules(loaded: &Loaded) -> Option<Fault>
     ensures { result ≡ first_fault (description loaded.now) }
 {
-    if let Some(fault) = field_fault(loaded) {
-        return Some(fault);
-    }
-    if let Some(fault) = stretch_fault(loaded) {
-        return Some(fault);
-    }
-    if let Some(fault) = depth_fault(loaded) {
-        return Some(fault);
-    }
-    if let Some(fault) = rank_fault(loaded) {
-        return Some(fault);
-    }
-    if let Some(fault) = owner_fault(loaded) {
-        return Some(fault);
-    }
-    place_fault(loaded)
+    field_fault(loaded)
+        .or_else(|| stretch_fault(loaded))
+        .or_else(|| depth_fault(loaded))
+        .or_else(|| rank_fault(loaded))
+        .or_else(|| owner_fault(loaded))
+        .or_else(|| place_fault(loaded))
 }
 
 // The first fault of a description, or none where no rule is broken.

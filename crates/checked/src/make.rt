@@ -1,10 +1,13 @@
 ghost use Rattle.table.specs.Description.{description};
+ghost use Rattle.table.specs.Loading.{loaded};
 ghost use Rattle.checked.specs.Check.{first_fault};
-ghost use Rattle.checked.specs.Making.{Makes};
+ghost use Rattle.checked.specs.Making.{Makes, Checks};
 
 use crate::checked::Checked;
 use crate::first::first_fault;
 use records::faults::Fault;
+use std::alloc::Global;
+use table::load::load;
 use table::loaded::Loaded;
 
 impl Checked {
@@ -16,5 +19,12 @@ impl Checked {
             Some(fault) => Err(fault),
             None => Ok(Checked::of(loaded)),
         }
+    }
+
+    // Loads and checks a description file: its first fault, or the description as checked.
+    pub fn load(heap: Global, bytes: &[u8]) -> Result<Checked, Fault>
+        ensures { Checks (loaded bytes.now) result }
+    {
+        Checked::new(load(heap, bytes)?)
     }
 }

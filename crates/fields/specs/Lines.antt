@@ -3,19 +3,21 @@ use Rattle.std.specs.Prelude.{Bool, false, cond, not, ◌&&◌, ◌||◌, ℕ, e
 use Rattle.records.specs.Statements.{statement}
 use Rattle.records.specs.declared.counts.Counts.{Counts}
 use Rattle.records.specs.declared.records.Line.{Line}
+use Rattle.records.specs.declared.statements.ReadLine.{ReadLine}
+use Rattle.records.specs.declared.statements.UseLine.{UseLine}
 use Rattle.records.specs.declared.statements.Statement.{Statement}
 use Rattle.records.specs.declared.statements.Statement.TheVariants.{Read, Assign, MapRead, Use, If, While, Unknown}
 use Rattle.fields.specs.Values.{names_one, names_one_or_none, is_alignment}
 
 -- the nodes of a read: only the width is compulsory
-abbrev pub read_nodes_fine : Counts → (width count lowest highest : ℕ) → Bool
-read_nodes_fine counts width count lowest highest =
-    names_one width counts.nodes && names_one_or_none count counts.nodes && names_one_or_none lowest counts.nodes
-    && names_one_or_none highest counts.nodes
+abbrev pub read_nodes_fine : Counts → ReadLine → Bool
+read_nodes_fine counts l =
+    names_one l.width counts.nodes && names_one_or_none l.count counts.nodes && names_one_or_none l.lowest counts.nodes
+    && names_one_or_none l.highest counts.nodes
 
 -- its name, alignment and look-ahead
-abbrev pub read_rest_fine : Counts → (name alignment ahead : ℕ) → Bool
-read_rest_fine counts name alignment ahead = names_one_or_none name counts.names && is_alignment alignment && leb ahead 1
+abbrev pub read_rest_fine : Counts → ReadLine → Bool
+read_rest_fine counts l = names_one_or_none l.name counts.names && is_alignment l.alignment && leb l.ahead 1
 
 abbrev pub assign_fine : Counts → (name node : ℕ) → Bool
 assign_fine counts name node = names_one name counts.names && names_one node counts.nodes
@@ -24,16 +26,16 @@ abbrev pub map_read_fine : Counts → (map name : ℕ) → Bool
 map_read_fine counts map name = names_one map counts.maps && names_one_or_none name counts.names
 
 -- least and most are 0 where a count node stands
-abbrev pub limits_fine : (count least most : ℕ) → Bool
-limits_fine count least most = eqb count 0 || eqb least 0 && eqb most 0
+abbrev pub limits_fine : UseLine → Bool
+limits_fine l = eqb l.count 0 || eqb l.least 0 && eqb l.most 0
 
 -- both names or neither
-abbrev pub carry_fine : Counts → (carried receiving : ℕ) → Bool
-carry_fine counts carried receiving =
-    cond (eqb carried 0) (eqb receiving 0) (names_one carried counts.names && names_one receiving counts.names)
+abbrev pub carry_fine : Counts → UseLine → Bool
+carry_fine counts l =
+    cond (eqb l.carried 0) (eqb l.receiving 0) (names_one l.carried counts.names && names_one l.receiving counts.names)
 
-abbrev pub use_fine : Counts → (class count : ℕ) → Bool
-use_fine counts class count = names_one class counts.classes && names_one_or_none count counts.nodes
+abbrev pub use_fine : Counts → UseLine → Bool
+use_fine counts l = names_one l.class counts.classes && names_one_or_none l.count counts.nodes
 
 -- a while has at least one round
 abbrev pub while_fine : Counts → (node rounds : ℕ) → Bool
@@ -41,22 +43,20 @@ while_fine counts node rounds = names_one node counts.nodes && not (eqb rounds 0
 
 -- the fields that a line's kind has
 abbrev pub statement_fine : Counts → Statement → Bool
-statement_fine counts (Read signed width name count alignment ahead lowest highest) =
-    read_nodes_fine counts width count lowest highest && read_rest_fine counts name alignment ahead
+statement_fine counts (Read fields) = read_nodes_fine counts fields && read_rest_fine counts fields
 statement_fine counts (Assign name node) = assign_fine counts name node
 statement_fine counts (MapRead map name) = map_read_fine counts map name
-statement_fine counts (Use class count least most carried receiving) =
-    use_fine counts class count && limits_fine count least most && carry_fine counts carried receiving
+statement_fine counts (Use fields) = use_fine counts fields && limits_fine fields && carry_fine counts fields
 statement_fine counts (If node first second) = names_one node counts.nodes
 statement_fine counts (While node lines rounds) = while_fine counts node rounds
 statement_fine counts Unknown = false
 
 -- how many of the seven fields they are
 abbrev pub used_fields : Statement → ℕ
-used_fields (Read signed width name count alignment ahead lowest highest) = 7
+used_fields (Read fields) = 7
 used_fields (Assign name node) = 2
 used_fields (MapRead map name) = 2
-used_fields (Use class count least most carried receiving) = 6
+used_fields (Use fields) = 6
 used_fields (If node first second) = 3
 used_fields (While node lines rounds) = 3
 used_fields Unknown = 0

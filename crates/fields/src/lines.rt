@@ -5,23 +5,23 @@ ghost use Rattle.fields.specs.Lines.{statement_fine, used_fields, rest_unused, l
 use crate::values::{is_alignment, names_one, names_one_or_none};
 use records::counts::Counts;
 use records::records::Line;
-use records::statements::Statement;
+use records::statements::{ReadLine, Statement, UseLine};
 
 // Whether the nodes of a read are fine: only the width is compulsory.
-fn read_nodes_fine(counts: Counts, width: u16, count: u16, lowest: u16, highest: u16) -> bool
-    ensures { result ≡ read_nodes_fine counts width count lowest highest }
+fn read_nodes_fine(counts: Counts, line: ReadLine) -> bool
+    ensures { result ≡ read_nodes_fine counts line }
 {
-    names_one(width, counts.nodes)
-        && names_one_or_none(count, counts.nodes)
-        && names_one_or_none(lowest, counts.nodes)
-        && names_one_or_none(highest, counts.nodes)
+    names_one(line.width, counts.nodes)
+        && names_one_or_none(line.count, counts.nodes)
+        && names_one_or_none(line.lowest, counts.nodes)
+        && names_one_or_none(line.highest, counts.nodes)
 }
 
 // Whether its name, alignment and look-ahead are.
-fn read_rest_fine(counts: Counts, name: u16, alignment: u16, ahead: u16) -> bool
-    ensures { result ≡ read_rest_fine counts name alignment ahead }
+fn read_rest_fine(counts: Counts, line: ReadLine) -> bool
+    ensures { result ≡ read_rest_fine counts line }
 {
-    names_one_or_none(name, counts.names) && is_alignment(alignment) && ahead <= 1
+    names_one_or_none(line.name, counts.names) && is_alignment(line.alignment) && line.ahead <= 1
 }
 
 // Whether an assignment has its name and its node.
@@ -39,27 +39,27 @@ fn map_read_fine(counts: Counts, map: u16, name: u16) -> bool
 }
 
 // Whether a use has its class, and no count or one that is there.
-fn use_fine(counts: Counts, class: u16, count: u16) -> bool
-    ensures { result ≡ use_fine counts class count }
+fn use_fine(counts: Counts, line: UseLine) -> bool
+    ensures { result ≡ use_fine counts line }
 {
-    names_one(class, counts.classes) && names_one_or_none(count, counts.nodes)
+    names_one(line.class, counts.classes) && names_one_or_none(line.count, counts.nodes)
 }
 
 // Whether least and most are 0 where a count node stands.
-fn limits_fine(count: u16, least: u16, most: u16) -> bool
-    ensures { result ≡ limits_fine count least most }
+fn limits_fine(line: UseLine) -> bool
+    ensures { result ≡ limits_fine line }
 {
-    count == 0 || least == 0 && most == 0
+    line.count == 0 || line.least == 0 && line.most == 0
 }
 
 // Whether both names of a carry are there, or neither.
-fn carry_fine(counts: Counts, carried: u16, receiving: u16) -> bool
-    ensures { result ≡ carry_fine counts carried receiving }
+fn carry_fine(counts: Counts, line: UseLine) -> bool
+    ensures { result ≡ carry_fine counts line }
 {
-    if carried == 0 {
-        receiving == 0
+    if line.carried == 0 {
+        line.receiving == 0
     } else {
-        names_one(carried, counts.names) && names_one(receiving, counts.names)
+        names_one(line.carried, counts.names) && names_one(line.receiving, counts.names)
     }
 }
 
@@ -75,32 +75,11 @@ fn statement_fine(counts: Counts, s: Statement) -> bool
     ensures { result ≡ statement_fine counts s }
 {
     match s {
-        Statement::Read {
-            signed: _,
-            width,
-            name,
-            count,
-            alignment,
-            ahead,
-            lowest,
-            highest,
-        } => {
-            read_nodes_fine(counts, width, count, lowest, highest)
-                && read_rest_fine(counts, name, alignment, ahead)
-        }
+        Statement::Read(line) => read_nodes_fine(counts, line) && read_rest_fine(counts, line),
         Statement::Assign { name, node } => assign_fine(counts, name, node),
         Statement::MapRead { map, name } => map_read_fine(counts, map, name),
-        Statement::Use {
-            class,
-            count,
-            least,
-            most,
-            carried,
-            receiving,
-        } => {
-            use_fine(counts, class, count)
-                && limits_fine(count, least, most)
-                && carry_fine(counts, carried, receiving)
+        Statement::Use(line) => {
+            use_fine(counts, line) && limits_fine(line) && carry_fine(counts, line)
         }
         Statement::If { node, .. } => names_one(node, counts.nodes),
         Statement::While { node, rounds, .. } => while_fine(counts, node, rounds),
@@ -113,9 +92,9 @@ fn used_fields(s: Statement) -> u16
     ensures { result ≡ used_fields s }
 {
     match s {
-        Statement::Read { .. } => 7,
+        Statement::Read(_) => 7,
         Statement::Assign { .. } | Statement::MapRead { .. } => 2,
-        Statement::Use { .. } => 6,
+        Statement::Use(_) => 6,
         Statement::If { .. } | Statement::While { .. } => 3,
         Statement::Unknown => 0,
     }
@@ -136,5 +115,6 @@ fn rest_unused(l: Line, used: u16) -> bool
 pub fn line_fine(counts: Counts, l: Line) -> bool
     ensures { result ≡ line_fine counts l }
 {
-    statement_fine(counts, l.statement()) && rest_unused(l, used_fields(l.statement()))
+    let statement = Statement::from(l);
+    statement_fine(counts, statement) && rest_unused(l, used_fields(statement))
 }

@@ -1,1 +1,1 @@
-pub mod Loops
+mod Stands

@@ -1,37 +1,22 @@
 // Whether a newer description has grown from an older one.
 ghost use Rattle.std.specs.Prelude.{◌≡◌, ℕ, true, ◌&&◌, List, length, drop};
-ghost use Rattle.records.specs.Statements.{statement};
+ghost use Rattle.std.specs.List.{list_all};
+ghost use Rattle.records.specs.Statements.{statement, written};
 ghost use Rattle.table.specs.Description.{entry, no_class, description};
-ghost use Rattle.rules.specs.Code.{written};
-ghost use Rattle.rules.specs.Growth.{every, member_grown, line_grown, unchanged, new_members_fit, new_lines_fit, grown, ReadsOn};
+ghost use Rattle.rules.specs.Growth.{member_grown, line_grown, unchanged, new_members_fit, new_lines_fit, grown, ReadsOn};
 
 use crate::same::{Fields, stands};
 use checked::checked::Checked;
 use records::records::{Class, Line};
 use records::statements::Statement;
 use table::loaded::Loaded;
-
-// The name that a line writes, 0 if none.
-fn written(line: Line) -> u16
-    ensures { result ≡ written (statement line) }
-{
-    match line.statement() {
-        Statement::Read { name, .. } => name,
-        Statement::Assign { name, .. } => name,
-        Statement::MapRead { name, .. } => name,
-        Statement::Use { receiving, .. } => receiving,
-        _ => 0,
-    }
-}
+use table::record::record_at;
 
 // The greatest size that class number n gives, 0 where there is none.
 fn greatest_at(classes: &[Class], n: usize) -> u16
     ensures { result ≡ (entry classes.now n no_class).greatest }
 {
-    if n == 0 || n > classes.len() {
-        return 0;
-    }
-    classes[n - 1].greatest
+    record_at(classes, n).greatest
 }
 
 // A new member of an older family is in an expandable one.
@@ -46,32 +31,28 @@ fn member_grown(classes: &[Class], member: Class) -> bool
 fn line_grown(names: usize, line: Line) -> bool
     ensures { result ≡ line_grown names line }
 {
-    let name = written(line) as usize;
+    let name = Statement::from(line).written() as usize;
     name == 0 || name > names
 }
 
 // Each new member of an older family is in an expandable one.
 fn members_grown(older: &[Class], newer: &[Class]) -> bool
-    ensures { result ≡ every (member_grown older.now) (drop (length older.now) newer.now) }
+    ensures { result ≡ list_all (member_grown older.now) (drop (length older.now) newer.now) }
 {
-    for i in older.len()..newer.len() {
-        if !member_grown(older, newer[i]) {
-            return false;
-        }
-    }
-    true
+    newer
+        .iter()
+        .skip(older.len())
+        .all(|member| member_grown(older, *member))
 }
 
 // Each line after the older's writes only new names.
 fn lines_grown(names: usize, older: usize, newer: &[Line]) -> bool
-    ensures { result ≡ every (line_grown names) (drop older newer.now) }
+    ensures { result ≡ list_all (line_grown names) (drop older newer.now) }
 {
-    for i in older..newer.len() {
-        if !line_grown(names, newer[i]) {
-            return false;
-        }
-    }
-    true
+    newer
+        .iter()
+        .skip(older)
+        .all(|line| line_grown(names, *line))
 }
 
 // Whether the top class and every older record stand unchanged in place.

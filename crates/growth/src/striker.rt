@@ -8,7 +8,8 @@ use rules::faults::ReadingFault;
 use rules::items::{Item, Kind};
 use table::loaded::Loaded;
 
-// How deep the items taken so far lead inside what is struck; 0 is outside.
+// How deep the items taken so far lead inside what is struck; 0 is outside. The older description is no field, but lent to each call:
+// a striker is then a plain value, with no lifetime for those who hold one.
 #[derive(Clone, Copy)]
 pub struct Striker {
     pub depth: u32,

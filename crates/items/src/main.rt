@@ -5,12 +5,8 @@ use anyhow::anyhow;
 use bits::bytes::Bytes;
 use checked::checked::Checked;
 use reading::state::Reading;
-use records::faults::Fault;
-use rules::faults::ReadingFault;
-use std::alloc::Global;
 use std::process::ExitCode;
-use std::{env, fs};
-use table::load::load;
+use std::{env, fmt, fs};
 
 const HELP: &str = "usage: items [DESCRIPTION STREAM]
 
@@ -84,27 +80,17 @@ fn bytes_of(rt: &HostRuntime, name: &str) -> anyhow::Result<Vec<u8>> {
     }
 }
 
-// The checked description that a file holds, or its first fault.
-fn checked(heap: Global, bytes: &[u8]) -> Result<Checked, Fault> {
-    Checked::new(load(heap, bytes)?)
-}
-
 // Reads the stream by the description, and prints what comes of it.
 fn items(rt: &HostRuntime, description: &str, stream: &str) -> anyhow::Result<()> {
     let bytes = bytes_of(rt, description)?;
-    let checked = match checked(rt.alloc(), bytes.as_slice()) {
+    let checked = match Checked::load(rt.alloc(), bytes.as_slice()) {
         Ok(checked) => checked,
-        Err(fault) => return refuse_description(rt, fault),
+        Err(fault) => return refuse(rt, &fault, &fault.cause),
     };
     let bits = bytes_of(rt, stream)?;
     match Bytes::new(bits.as_slice()) {
         Ok(source) => print_items(rt, Reading::open(&checked, source)),
-        Err(refusal) => {
-            let number = refusal.number();
-            println!(rt; "refused {number}")?;
-            eprintln!(rt; "{refusal}")?;
-            Err(anyhow!("refused"))
-        }
+        Err(refusal) => refuse(rt, &refusal.number(), &refusal),
     }
 }
 
@@ -112,32 +98,24 @@ fn items(rt: &HostRuntime, description: &str, stream: &str) -> anyhow::Result<()
 fn print_items(rt: &HostRuntime, mut reading: Reading<Bytes>) -> anyhow::Result<()> {
     for _ in 0..u64::MAX {
         match reading.next() {
-            Ok(next) => match next {
-                Some(item) => println!(rt; "{item}")?,
-                None => {
-                    println!(rt; "end")?;
-                    return Ok(());
-                }
-            },
-            Err(fault) => return refuse(rt, fault),
+            Ok(Some(item)) => println!(rt; "{item}")?,
+            Ok(None) => {
+                println!(rt; "end")?;
+                return Ok(());
+            }
+            Err(fault) => return refuse(rt, &fault, &fault.cause),
         }
     }
     Err(anyhow!("more items than a number can count"))
 }
 
-fn refuse(rt: &HostRuntime, fault: ReadingFault) -> anyhow::Result<()> {
-    let cause = fault.cause;
-    println!(rt; "refused {fault}")?;
-    eprintln!(rt; "{cause}")?;
-    Err(anyhow!("refused"))
-}
-
-fn refuse_description(rt: &HostRuntime, fault: Fault) -> anyhow::Result<()> {
-    let cause = fault.cause;
-    let number = cause.number();
-    let table = fault.table.number();
-    let record = fault.record;
-    println!(rt; "refused {number} {table} {record}")?;
+// Prints the numbers of a refusal, and on standard error what they mean.
+fn refuse<N: fmt::Display, C: fmt::Display>(
+    rt: &HostRuntime,
+    numbers: &N,
+    cause: &C,
+) -> anyhow::Result<()> {
+    println!(rt; "refused {numbers}")?;
     eprintln!(rt; "{cause}")?;
     Err(anyhow!("refused"))
 }

@@ -1,5 +1,5 @@
 -- The code of some lines, line by line.
-use Rattle.std.proofs.Common.{◌≡◌, ℕ, zero, suc, ◌+◌, ◌-◌, ◌<◌, ◌≤◌, min, Bool, List, length, sym, refl, ap, ◌∙◌, add-one, arith}
+use Rattle.std.proofs.Common.{◌≡◌, ℕ, zero, suc, ◌+◌, ◌-◌, ◌<◌, ◌≤◌, min, List, length, sym, refl, ap, ◌∙◌, add-one, arith}
 use lib.ListN.{get_or-eq_default}
 use Rattle.records.specs.declared.records.Line.{Line}
 use Rattle.records.specs.declared.statements.Statement.{Statement}
@@ -7,17 +7,15 @@ use Rattle.records.specs.declared.statements.Statement.TheVariants.{Read, Assign
 use Rattle.records.specs.Statements.{statement}
 use Rattle.table.specs.Description.{entry, no_line}
 use Rattle.rules.specs.Code.{Code, finish, read, assign, map_read, use_of, branch, while, coded, code_within, code}
-use Rattle.objects.specs.Upcoming.{IsKnown, IsUnread, IsPlain}
+use Rattle.objects.specs.Upcoming.{IsKnown}
 
 module _ (at k : ℕ) (f g : ℕ → ℕ → Code) (same : (a n : ℕ) → n ≤ k → f a n ≡ g a n) where
   coded_same : (s : Statement) → coded s at k f ≡ coded s at k g
   unfolding coded
-  coded_same (Read signed width name count alignment ahead lowest highest) =
-      ap (read at (record { signed = signed; width = width; name = name; count = count; alignment = alignment; ahead = ahead; lowest = lowest; highest = highest })) (same (suc at) k (omega arith))
+  coded_same (Read fields) = ap (read at fields) (same (suc at) k (omega arith))
   coded_same (Assign name node) = ap (assign at name node) (same (suc at) k (omega arith))
   coded_same (MapRead map name) = ap (map_read at map name) (same (suc at) k (omega arith))
-  coded_same (Use class count least most carried receiving) =
-      ap (use_of at (record { class = class; count = count; least = least; most = most; carried = carried; receiving = receiving })) (same (suc at) k (omega arith))
+  coded_same (Use fields) = ap (use_of at fields) (same (suc at) k (omega arith))
   coded_same (If node first second) =
       let m = min first k in
       let n = min second (k - m) in
@@ -71,10 +69,10 @@ code-past lines at (suc n) h =
     code_unknown lines at n (ap statement (past lines at h)) ∙ code-past lines (suc at) n (omega arith)
 
 pub known_of : (s : Statement) → (s ≡ Unknown → ⊥) → IsKnown s
-known_of (Read signed width name count alignment ahead lowest highest) h = tt
+known_of (Read fields) h = tt
 known_of (Assign name node) h = tt
 known_of (MapRead map name) h = tt
-known_of (Use class count least most carried receiving) h = tt
+known_of (Use fields) h = tt
 known_of (If node first second) h = tt
 known_of (While node lines rounds) h = tt
 known_of Unknown h = h refl
@@ -94,23 +92,3 @@ module _ (lines : List Line) (at n : ℕ) (some : 0 < n) where
       go : (m : ℕ) → 0 < m → code lines at m ≡ coded s at (m - 1) (code lines)
       go zero h = absurd (omega arith)
       go (suc k) h = let a : suc k - 1 ≡ k = omega arith in rw (a, e) (code_line lines at k)
-
--- a line of a kind that there is, and of another than those before
-pub unread_of : (s : Statement) → IsKnown s
-    → ((a : Bool) (b c e f g h i : ℕ) → s ≡ Read a b c e f g h i → ⊥) → IsUnread s
-unread_of (Read signed width name count alignment ahead lowest highest) k n = n signed width name count alignment ahead lowest highest refl
-unread_of (Assign name node) k n = tt
-unread_of (MapRead map name) k n = tt
-unread_of (Use class count least most carried receiving) k n = tt
-unread_of (If node first second) k n = tt
-unread_of (While node lines rounds) k n = tt
-unread_of Unknown k n = k
-
-pub plain_of : (s : Statement) → IsUnread s → ((a b c e f g : ℕ) → s ≡ Use a b c e f g → ⊥) → IsPlain s
-plain_of (Read signed width name count alignment ahead lowest highest) k n = k
-plain_of (Assign name node) k n = tt
-plain_of (MapRead map name) k n = tt
-plain_of (Use class count least most carried receiving) k n = n class count least most carried receiving refl
-plain_of (If node first second) k n = tt
-plain_of (While node lines rounds) k n = tt
-plain_of Unknown k n = k

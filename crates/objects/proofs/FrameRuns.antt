@@ -1,14 +1,15 @@
 -- What each kind of frame does to what lies ahead in its object.
-use Rattle.std.proofs.Common.{◌≡◌, ℕ, zero, suc, ◌+◌, ◌-◌, ◌<◌, ◌≤◌, min, Bool, true, false, eqb, leb, ◌⊎◌, List, [], ◌∷◌, length, drop, ℤ, Ok, Err, sym, refl, ap, ◌∙◌, subst, inl, inr, add-one, arith, drop-cons}
+use Rattle.std.proofs.Common.{◌≡◌, ℕ, zero, suc, ◌+◌, ◌-◌, ◌<◌, ◌≤◌, min, Bool, true, false, eqb, leb, ◌⊎◌, List, [], ◌∷◌, length, drop, ℤ, Ok, Err, Result, sym, refl, ap, ◌∙◌, subst, inl, inr, add-one, arith, drop-cons}
 use Rattle.std.proofs.lemmas.Bool.Decides.{nat_tests}
 use Rattle.std.proofs.lemmas.List.{drop_all}
 use Rattle.records.specs.declared.records.Extension.{Extension}
 use Rattle.table.specs.Description.{Description, entry, extension_at, no_extension}
 use Rattle.rules.specs.declared.faults.Failure.{Failure}
+use Rattle.rules.specs.declared.faults.ReadingFault.{ReadingFault}
 use Rattle.rules.specs.declared.faults.ReadingCause.TheVariants.{TooFew, TooManyRounds}
 use Rattle.rules.specs.declared.steps.Got.{Got}
-use Rattle.rules.specs.declared.lines.ReadLine.{ReadLine}
-use Rattle.rules.specs.declared.lines.UseLine.{UseLine}
+use Rattle.records.specs.declared.statements.ReadLine.{ReadLine}
+use Rattle.records.specs.declared.statements.UseLine.{UseLine}
 use Rattle.rules.specs.Trace.{Run, out, pass, stop, done, bind, bind_assoc}
 use Rattle.rules.specs.Checks.{Check, attempt, ensure, fault}
 use Rattle.rules.specs.Values.{is_zero}
@@ -18,18 +19,18 @@ use Rattle.rules.specs.Reading.{State, Object, Objects, valued, elements, object
 use Rattle.objects.specs.declared.frame.Frame.{Frame}
 use Rattle.objects.specs.declared.frame.Frame.TheVariants.{Lines, Rounds, Elements, Counted, Uncounted}
 use Rattle.objects.specs.declared.moves.Move.{Move}
-use Rattle.objects.specs.declared.moves.Move.TheVariants.{Quiet, Give, Refuse, Begin, Leave}
+use Rattle.objects.specs.declared.moves.Move.TheVariants.{Quiet, Give, Begin, Leave}
 use Rattle.objects.specs.Ahead.{Inner, onto, with_names, state, frame_run, content_run, inner_run, code_run, height, wants, Fit, Room, Readable}
 use Rattle.objects.specs.Moves.{Moved, following, while_code}
 
 -- the same step from what lies ahead in other words
-pub moved_from : (d : Description) (bits : List Bool) (o : Object) {from to : Objects → Run State} (p : ℕ) (r : Move) (c : Inner)
+pub moved_from : (d : Description) (bits : List Bool) (o : Object) {from to : Objects → Run State} (p : ℕ) (r : Result Move ReadingFault) (c : Inner)
     → ((obj : Objects) → from obj ≡ to obj) → Moved d bits o to p r c → Moved d bits o from p r c
-moved_from d bits o p (Quiet q) c e m = record { same = λ obj. e obj ∙ m.same obj; fit = m.fit; near = m.near }
-moved_from d bits o p (Give i q) c e m = record { same = λ obj. e obj ∙ m.same obj; fit = m.fit; near = m.near }
-moved_from d bits o p (Refuse f) c e m = record { same = λ obj. e obj ∙ m.same obj; fit = m.fit }
-moved_from d bits o p (Begin line u index) c e m = record { same = λ obj. e obj ∙ m.same obj; fit = m.fit; writes = m.writes }
-moved_from d bits o p Leave c e m = record { same = λ obj. e obj ∙ m.same obj; fit = m.fit }
+moved_from d bits o p (Ok (Quiet q)) c e m = record { same = λ obj. e obj ∙ m.same obj; fit = m.fit; near = m.near }
+moved_from d bits o p (Ok (Give i q)) c e m = record { same = λ obj. e obj ∙ m.same obj; fit = m.fit; near = m.near }
+moved_from d bits o p (Err f) c e m = record { same = λ obj. e obj ∙ m.same obj; fit = m.fit }
+moved_from d bits o p (Ok (Begin line u index)) c e m = record { same = λ obj. e obj ∙ m.same obj; fit = m.fit; writes = m.writes }
+moved_from d bits o p (Ok Leave) c e m = record { same = λ obj. e obj ∙ m.same obj; fit = m.fit }
 
 -- a number that is not used up
 one_less : (n : ℕ) → 0 < n → n ≡ suc (n - 1)

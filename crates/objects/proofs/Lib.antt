@@ -6,3 +6,4 @@ pub mod FrameRuns
 pub mod NextLines
 pub mod Begins
 pub mod Sames
+pub mod Tries

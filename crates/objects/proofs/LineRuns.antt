@@ -4,8 +4,8 @@ use native.Mathlib.Nat.{sub-zero}
 use Rattle.table.specs.Description.{Description, map_at}
 use Rattle.rules.specs.declared.faults.Failure.{Failure}
 use Rattle.rules.specs.declared.steps.Got.{Got}
-use Rattle.rules.specs.declared.lines.ReadLine.{ReadLine}
-use Rattle.rules.specs.declared.lines.UseLine.{UseLine}
+use Rattle.records.specs.declared.statements.ReadLine.{ReadLine}
+use Rattle.records.specs.declared.statements.UseLine.{UseLine}
 use Rattle.rules.specs.Trace.{out, pass, stop, bind, bind_assoc}
 use Rattle.rules.specs.Checks.{attempt, fault}
 use Rattle.rules.specs.Lookups.{map_output}

@@ -1,8 +1,9 @@
 -- The next of some lines, and what lies ahead.
 use Rattle.std.proofs.Common.{◌≡◌, ℕ, suc, ◌+◌, ◌≤◌, Bool, List, ◌∷◌, length, ap, subst}
+use Rattle.records.specs.Statements.{written}
 use Rattle.records.specs.declared.statements.Statement.{Statement}
 use Rattle.table.specs.Description.{Description, statement_at}
-use Rattle.rules.specs.Code.{Code, code, written}
+use Rattle.rules.specs.Code.{Code, code}
 use Rattle.rules.specs.Reading.{Object, Objects}
 use Rattle.objects.specs.declared.frame.Frame.{Frame}
 use Rattle.objects.specs.declared.frame.Frame.TheVariants.{Lines}

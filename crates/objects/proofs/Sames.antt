@@ -2,7 +2,7 @@
 use Rattle.std.proofs.Common.{◌≡◌, ℕ, ◌<◌, Bool, List, ◌∷◌, length, sym, subst, arith}
 use Rattle.table.specs.Description.{Description}
 use Rattle.rules.specs.declared.items.Item.{Item}
-use Rattle.rules.specs.declared.lines.UseLine.{UseLine}
+use Rattle.records.specs.declared.statements.UseLine.{UseLine}
 use Rattle.rules.specs.Trace.{Run}
 use Rattle.rules.specs.Values.{Names}
 use Rattle.rules.specs.Reading.{State, Object, Objects}

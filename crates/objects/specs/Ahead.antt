@@ -1,9 +1,12 @@
 -- What lies ahead inside an open object, by what it still has to do.
 use Rattle.std.specs.Prelude.{ℕ, suc, ◌+◌, ◌-◌, ◌≤◌, max, Bool, List, [], ◌∷◌, length, drop}
+use Rattle.records.specs.Statements.{written}
+use mathlib.Core.HLevel.{Unit-prop, ×₃_prop, Π_prop}
+use native.Mathlib.Bridge.{le_prop}
 use Rattle.table.specs.Description.{Description, class_at, extension_at, map_at, statement_at}
 use Rattle.rules.specs.Trace.{Run, bind}
 use Rattle.rules.specs.Values.{Names}
-use Rattle.rules.specs.Code.{Code, finish, read, assign, map_read, use_of, branch, while, code, written}
+use Rattle.rules.specs.Code.{Code, finish, read, assign, map_read, use_of, branch, while, code}
 use Rattle.rules.specs.Reading.{State, Object, Objects, valued, elements, objects, objects_to_end, rounds, run, extensions}
 use Rattle.values.specs.Names.{named_by}
 use Rattle.objects.specs.declared.frame.Frame.{Frame}
@@ -97,3 +100,25 @@ pub record Readable (d : Description) : Type 0 where
   pub names : (n : ℕ) → written (statement_at d n) ≤ 128
   pub ids : (n : ℕ) → (class_at d n).width ≤ 16
   pub maps : (n : ℕ) → (map_at d n).width ≤ 16
+
+pub readable_prop : (d : Description) → IsProp (Readable d)
+readable_prop d x y = λ i.
+    record {
+      classes = Π_prop (λ n. le_prop) x.classes y.classes i;
+      extensions = Π_prop (λ n. le_prop) x.extensions y.extensions i;
+      names = Π_prop (λ n. le_prop) x.names y.names i;
+      ids = Π_prop (λ n. le_prop) x.ids y.ids i;
+      maps = Π_prop (λ n. le_prop) x.maps y.maps i;
+    }
+
+named_prop : (f : Frame) → IsProp (Named f)
+named_prop (Lines at count) = Unit-prop
+named_prop (Rounds line node count left) = Unit-prop
+named_prop (Elements line fields index total) = le_prop
+named_prop (Counted line fields index total) = le_prop
+named_prop (Uncounted line fields index) = le_prop
+
+pub fit_prop : (d : Description) (fs : List Frame) → IsProp (Fit d fs)
+unfolding Fit
+fit_prop d [] = Unit-prop
+fit_prop d (f ∷ fs) = ×₃_prop le_prop (named_prop f) (fit_prop d fs)

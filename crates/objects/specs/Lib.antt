@@ -2,5 +2,6 @@ pub mod Tops
 pub mod Frames
 pub mod Upcoming
 pub mod Ahead
+pub mod Tries
 pub mod Moves
 pub mod Starts

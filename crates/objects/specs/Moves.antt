@@ -1,13 +1,13 @@
 -- What one step inside an open object does.
-use Rattle.std.specs.Prelude.{◌≡◌, ℕ, suc, ◌+◌, ◌-◌, ◌≤◌, min, Bool, List}
+use Rattle.std.specs.Prelude.{◌≡◌, ℕ, suc, ◌+◌, ◌-◌, ◌≤◌, min, Bool, List, Ok, Err, Result}
 use Rattle.table.specs.Description.{Description}
 use Rattle.rules.specs.declared.faults.ReadingFault.{ReadingFault}
 use Rattle.rules.specs.declared.items.Item.{Item}
-use Rattle.rules.specs.declared.lines.UseLine.{UseLine}
+use Rattle.records.specs.declared.statements.UseLine.{UseLine}
 use Rattle.rules.specs.Trace.{Run, out, pass, stop, done, bind}
 use Rattle.rules.specs.Reading.{State, Object, Objects, after_object}
 use Rattle.objects.specs.declared.moves.Move.{Move}
-use Rattle.objects.specs.declared.moves.Move.TheVariants.{Quiet, Give, Refuse, Begin, Leave}
+use Rattle.objects.specs.declared.moves.Move.TheVariants.{Quiet, Give, Begin, Leave}
 use Rattle.rules.specs.Code.{Code, branch, while, code}
 use Rattle.objects.specs.declared.frame.Frame.{Frame}
 use Rattle.objects.specs.declared.inside.Inside.{Inside}
@@ -43,23 +43,23 @@ module _ (d : Description) (bits : List Bool) (o : Object) where
     pub fit : Fit d c.frames
 
   -- a step from what lies ahead at a place
-  abbrev pub Moved : (from : Objects → Run State) → (p : ℕ) → Move → Inner → Type 0
-  Moved from p (Quiet q) c = Quietly from q c
-  Moved from p (Give i q) c = Gives from i q c
-  Moved from p (Refuse f) c = Refuses from f c
-  Moved from p (Begin line u index) c = Begins from p line u index c
-  Moved from p Leave c = Leaves from p c
+  abbrev pub Moved : (from : Objects → Run State) → (p : ℕ) → Result Move ReadingFault → Inner → Type 0
+  Moved from p (Ok (Quiet q)) c = Quietly from q c
+  Moved from p (Ok (Give i q)) c = Gives from i q c
+  Moved from p (Ok (Begin line u index)) c = Begins from p line u index c
+  Moved from p (Ok Leave) c = Leaves from p c
+  Moved from p (Err f) c = Refuses from f c
 
 -- a step of an object that has code before what it has to do, at a place
-abbrev pub CodeMoved : Description → List Bool → Object → Code → Inside → (p : ℕ) → Move → Inside → Type 0
+abbrev pub CodeMoved : Description → List Bool → Object → Code → Inside → (p : ℕ) → Result Move ReadingFault → Inside → Type 0
 CodeMoved d bits o k i p r j = Moved d bits o (code_run d bits o k (inner_of i) p) p r (inner_of j)
 
 -- a step of an object that has a frame before them
-abbrev pub FrameMoved : Description → List Bool → Object → Frame → Inside → (p : ℕ) → Move → Inside → Type 0
+abbrev pub FrameMoved : Description → List Bool → Object → Frame → Inside → (p : ℕ) → Result Move ReadingFault → Inside → Type 0
 FrameMoved d bits o f i p r j = Moved d bits o (inner_run d bits o (onto f (inner_of i)) p) p r (inner_of j)
 
 -- a step of an object
-abbrev pub InsideMoved : Description → List Bool → Object → Inside → (p : ℕ) → Move → Inside → Type 0
+abbrev pub InsideMoved : Description → List Bool → Object → Inside → (p : ℕ) → Result Move ReadingFault → Inside → Type 0
 InsideMoved d bits o i p r j = Moved d bits o (inner_run d bits o (inner_of i) p) p r (inner_of j)
 
 -- the code of the lines after a line in its block

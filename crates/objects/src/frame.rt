@@ -1,4 +1,4 @@
-use rules::lines::{ReadLine, UseLine};
+use records::statements::{ReadLine, UseLine};
 
 // What an open object still has to do.
 #[derive(Clone, Copy)]

@@ -9,6 +9,8 @@ mod lines;
 pub mod making;
 pub mod moves;
 mod rounds;
+pub mod scene;
+mod scenes;
 pub mod step;
 mod upcoming;
 pub mod values_of;

@@ -1,5 +1,5 @@
 // One step for each kind of line.
-ghost use Rattle.std.specs.Prelude.{◌≡◌, ℕ, ◌+◌, ◌<◌, ◌≤◌, min, Bool, List, length, IfOk};
+ghost use Rattle.std.specs.Prelude.{◌≡◌, ℕ, ◌+◌, ◌<◌, ◌≤◌};
 ghost use Rattle.table.specs.Description.{description, map_at};
 ghost use Rattle.rules.specs.Code.{assign, read, map_read, use_of};
 ghost use Rattle.rules.specs.Lookups.{map_output};
@@ -12,16 +12,15 @@ ghost use Rattle.objects.specs.Moves.{CodeMoved, following, if_code, while_code}
 
 use crate::frame::Frame;
 use crate::inside::{About, Inside};
-use crate::moves::{Move, fault_of};
-use crate::values_of::{is_zero, write};
+use crate::moves::Move;
+use crate::scene::Scene;
+use crate::values_of::write;
 use bits::source::Source;
-use rules::faults::Failure;
+use records::statements::{ReadLine, UseLine};
+use rules::faults::ReadingFault;
 use rules::items::{Item, Kind};
-use rules::lines::{ReadLine, UseLine};
-use rules::steps::{Got, Window};
-use steps::maps::map_read;
-use table::loaded::Loaded;
-use table::record::record_at;
+use rules::steps::Got;
+use values::operators::is_zero;
 
 // The lines after a line in its block.
 pub(crate) fn lines_after(line: u16, after: u16) -> Frame
@@ -31,13 +30,6 @@ pub(crate) fn lines_after(line: u16, after: u16) -> Frame
         at: line as u32 + 1,
         count: after,
     }
-}
-
-// The smaller of two numbers.
-pub(crate) fn smaller(a: u16, b: u16) -> u16
-    ensures { result ≡ min a b }
-{
-    if a < b { a } else { b }
 }
 
 // The item of a value that was read.
@@ -55,240 +47,154 @@ pub(crate) fn value_item(about: About, line: u16, index: u16, got: Got) -> Item
     }
 }
 
-// The index of a map at a place, and its row's output.
-fn mapped<S: Source>(
-    source: &S,
-    tables: &Loaded,
-    window: Window,
-    map: u16,
-    p: u32,
-) -> Result<Got, Failure>
-    requires within { window.end ≤ length (S.bits source.now) }
-    requires width { (map_at (description tables.now) map).width ≤ 16 }
-    ensures value { result ≡ mapped (S.bits source.now) window (map_at (description tables.now) map).width (map_output (description tables.now) map) p }
-    ensures bound { IfOk result (λ g. g.after ≤ window.end) }
-{
-    let record = record_at(&tables.maps, map as usize);
-    map_read(source, &tables.rows, window, record, p)
-}
-
 impl Inside {
     // Gives a name the value of a node.
-    pub(crate) fn assign(
+    pub(crate) fn assign<S: Source>(
         &mut self,
-        tables: &Loaded,
-        about: About,
-        p: u32,
+        scene: &Scene<S>,
         line: u16,
         after: u16,
         name: u16,
         node: u16,
-    ) -> Move
-        requires room { Room (description tables.now) (assign line name node (following (description tables.now) line after)) (frames self.old.frames) }
+    ) -> Result<Move, ReadingFault>
+        requires room { Room (description scene.now.tables.now) (assign line name node (following (description scene.now.tables.now) line after)) (frames self.old.frames) }
         requires named { name ≤ 128 }
-        requires near { p ≤ 2147483647 }
-        ensures { (bits : List Bool) → CodeMoved (description tables.now) bits (object_of about) (assign line name node (following (description tables.now) line after)) self.old p result self.new }
+        ensures { CodeMoved (description scene.now.tables.now) (S.bits scene.now.source.now) (object_of scene.now.about) (assign line name node (following (description scene.now.tables.now) line after)) self.old scene.now.place result self.new }
     {
-        match self.value(tables, about, node) {
-            Ok(value) => {
-                write(&mut self.names, name, value);
-                self.frames.push(lines_after(line, after));
-                Move::Quiet { place: p }
-            }
-            Err(failure) => Move::Refuse {
-                fault: fault_of(failure, line, p),
-            },
-        }
+        let value = scene.tried(line, self.value(scene, node))?;
+        write(&mut self.names, name, value);
+        self.frames.push(lines_after(line, after));
+        Ok(Move::Quiet { place: scene.place })
     }
 
     // Begins the elements of a read.
-    pub(crate) fn read(
+    pub(crate) fn read<S: Source>(
         &mut self,
-        tables: &Loaded,
-        about: About,
-        p: u32,
+        scene: &Scene<S>,
         line: u16,
         after: u16,
         fields: ReadLine,
-    ) -> Move
-        requires room { Room (description tables.now) (read line fields (following (description tables.now) line after)) (frames self.old.frames) }
+    ) -> Result<Move, ReadingFault>
+        requires room { Room (description scene.now.tables.now) (read line fields (following (description scene.now.tables.now) line after)) (frames self.old.frames) }
         requires named { fields.name ≤ 128 }
-        requires near { p ≤ 2147483647 }
-        ensures { (bits : List Bool) → CodeMoved (description tables.now) bits (object_of about) (read line fields (following (description tables.now) line after)) self.old p result self.new }
+        ensures { CodeMoved (description scene.now.tables.now) (S.bits scene.now.source.now) (object_of scene.now.about) (read line fields (following (description scene.now.tables.now) line after)) self.old scene.now.place result self.new }
     {
-        match self.count_or_one(tables, about, fields.count) {
-            Ok(total) => {
-                let elements = Frame::Elements {
-                    line,
-                    fields,
-                    index: 0,
-                    total,
-                };
-                self.frames.push_both(lines_after(line, after), elements);
-                Move::Quiet { place: p }
-            }
-            Err(failure) => Move::Refuse {
-                fault: fault_of(failure, line, p),
-            },
-        }
+        let total = scene.tried(line, self.count_or_one(scene, fields.count))?;
+        let elements = Frame::Elements {
+            line,
+            fields,
+            index: 0,
+            total,
+        };
+        self.frames.push_both(lines_after(line, after), elements);
+        Ok(Move::Quiet { place: scene.place })
     }
 
     // Reads an index, and hands out the output of its row.
     pub(crate) fn map_read<S: Source>(
         &mut self,
-        source: &S,
-        tables: &Loaded,
-        about: About,
-        p: u32,
+        scene: &Scene<S>,
         line: u16,
         after: u16,
         map: u16,
         name: u16,
-    ) -> Move
-        requires room { Room (description tables.now) (map_read line map name (following (description tables.now) line after)) (frames self.old.frames) }
+    ) -> Result<Move, ReadingFault>
+        requires room { Room (description scene.now.tables.now) (map_read line map name (following (description scene.now.tables.now) line after)) (frames self.old.frames) }
         requires named { name ≤ 128 }
-        requires width { (map_at (description tables.now) map).width ≤ 16 }
-        requires within { about.window.end ≤ length (S.bits source.now) }
-        requires short { about.window.end ≤ 2147483647 }
-        ensures { CodeMoved (description tables.now) (S.bits source.now) (object_of about) (map_read line map name (following (description tables.now) line after)) self.old p result self.new }
+        requires width { (map_at (description scene.now.tables.now) map).width ≤ 16 }
+        ensures { CodeMoved (description scene.now.tables.now) (S.bits scene.now.source.now) (object_of scene.now.about) (map_read line map name (following (description scene.now.tables.now) line after)) self.old scene.now.place result self.new }
     {
-        match mapped(source, tables, about.window, map, p) {
-            Ok(got) => {
-                write(&mut self.names, name, got.value);
-                self.frames.push(lines_after(line, after));
-                Move::Give {
-                    item: value_item(about, line, 0, got),
-                    place: got.after,
-                }
-            }
-            Err(failure) => Move::Refuse {
-                fault: fault_of(failure, line, p),
-            },
-        }
+        let got = scene.tried(line, scene.mapped(map))?;
+        write(&mut self.names, name, got.value);
+        self.frames.push(lines_after(line, after));
+        Ok(Move::Give {
+            item: value_item(scene.about, line, 0, got),
+            place: got.after,
+        })
     }
 
-    // Begins the objects of a use with a count.
-    pub(crate) fn use_counted(
+    // Begins the objects of a use, with or without a count.
+    pub(crate) fn use_line<S: Source>(
         &mut self,
-        tables: &Loaded,
-        about: About,
-        p: u32,
+        scene: &Scene<S>,
         line: u16,
         after: u16,
         fields: UseLine,
-    ) -> Move
-        requires room { Room (description tables.now) (use_of line fields (following (description tables.now) line after)) (frames self.old.frames) }
-        requires some { 0 < fields.count }
+    ) -> Result<Move, ReadingFault>
+        requires room { Room (description scene.now.tables.now) (use_of line fields (following (description scene.now.tables.now) line after)) (frames self.old.frames) }
         requires named { fields.receiving ≤ 128 }
-        requires near { p ≤ 2147483647 }
-        ensures { (bits : List Bool) → CodeMoved (description tables.now) bits (object_of about) (use_of line fields (following (description tables.now) line after)) self.old p result self.new }
+        ensures { CodeMoved (description scene.now.tables.now) (S.bits scene.now.source.now) (object_of scene.now.about) (use_of line fields (following (description scene.now.tables.now) line after)) self.old scene.now.place result self.new }
     {
-        match self.count(tables, about, fields.count) {
-            Ok(total) => {
-                let objects = Frame::Counted {
-                    line,
-                    fields,
-                    index: 0,
-                    total,
-                };
-                self.frames.push_both(lines_after(line, after), objects);
-                Move::Quiet { place: p }
+        let objects = if fields.count > 0 {
+            Frame::Counted {
+                line,
+                fields,
+                index: 0,
+                total: scene.tried(line, self.count(scene, fields.count))?,
             }
-            Err(failure) => Move::Refuse {
-                fault: fault_of(failure, line, p),
-            },
-        }
+        } else {
+            Frame::Uncounted {
+                line,
+                fields,
+                index: 0,
+            }
+        };
+        self.frames.push_both(lines_after(line, after), objects);
+        Ok(Move::Quiet { place: scene.place })
     }
 
     // Chooses one of the blocks of an if.
-    pub(crate) fn branch(
+    pub(crate) fn branch<S: Source>(
         &mut self,
-        tables: &Loaded,
-        about: About,
-        p: u32,
+        scene: &Scene<S>,
         line: u16,
         after: u16,
         node: u16,
         first: u16,
         second: u16,
-    ) -> Move
-        requires room { Room (description tables.now) (if_code (description tables.now) line after node first second) (frames self.old.frames) }
-        requires near { p ≤ 2147483647 }
-        ensures { (bits : List Bool) → CodeMoved (description tables.now) bits (object_of about) (if_code (description tables.now) line after node first second) self.old p result self.new }
+    ) -> Result<Move, ReadingFault>
+        requires room { Room (description scene.now.tables.now) (if_code (description scene.now.tables.now) line after node first second) (frames self.old.frames) }
+        ensures { CodeMoved (description scene.now.tables.now) (S.bits scene.now.source.now) (object_of scene.now.about) (if_code (description scene.now.tables.now) line after node first second) self.old scene.now.place result self.new }
     {
-        match self.value(tables, about, node) {
-            Ok(value) => {
-                let m = smaller(first, after);
-                let n = smaller(second, after - m);
-                let at = line as u32 + 1;
-                let middle = at + m as u32;
-                let rest = Frame::Lines {
-                    at: middle + n as u32,
-                    count: after - m - n,
-                };
-                if is_zero(value) {
-                    let block = Frame::Lines {
-                        at: middle,
-                        count: n,
-                    };
-                    self.frames.push_both(rest, block);
-                } else {
-                    self.frames.push_both(rest, Frame::Lines { at, count: m });
-                }
-                Move::Quiet { place: p }
-            }
-            Err(failure) => Move::Refuse {
-                fault: fault_of(failure, line, p),
-            },
-        }
-    }
-
-    // Begins the objects of a use without a count.
-    pub(crate) fn use_to_end(
-        &mut self,
-        tables: &Loaded,
-        about: About,
-        p: u32,
-        line: u16,
-        after: u16,
-        fields: UseLine,
-    ) -> Move
-        requires room { Room (description tables.now) (use_of line fields (following (description tables.now) line after)) (frames self.old.frames) }
-        requires none { fields.count ≡ 0 }
-        requires named { fields.receiving ≤ 128 }
-        requires near { p ≤ 2147483647 }
-        ensures { (bits : List Bool) → CodeMoved (description tables.now) bits (object_of about) (use_of line fields (following (description tables.now) line after)) self.old p result self.new }
-    {
-        let objects = Frame::Uncounted {
-            line,
-            fields,
-            index: 0,
+        let value = scene.tried(line, self.value(scene, node))?;
+        let m = first.min(after);
+        let n = second.min(after - m);
+        let at = line as u32 + 1;
+        let middle = at + m as u32;
+        let rest = Frame::Lines {
+            at: middle + n as u32,
+            count: after - m - n,
         };
-        self.frames.push_both(lines_after(line, after), objects);
-        Move::Quiet { place: p }
+        let block = if is_zero(value) {
+            Frame::Lines {
+                at: middle,
+                count: n,
+            }
+        } else {
+            Frame::Lines { at, count: m }
+        };
+        self.frames.push_both(rest, block);
+        Ok(Move::Quiet { place: scene.place })
     }
 
     // Begins the rounds of a while, with the first test.
-    pub(crate) fn begin_rounds(
+    pub(crate) fn begin_rounds<S: Source>(
         &mut self,
-        tables: &Loaded,
-        about: About,
-        p: u32,
+        scene: &Scene<S>,
         line: u16,
         after: u16,
         node: u16,
         lines: u16,
         rounds: u16,
-    ) -> Move
-        requires room { Room (description tables.now) (while_code (description tables.now) line after node lines rounds) (frames self.old.frames) }
-        requires near { p ≤ 2147483647 }
-        ensures { (bits : List Bool) → CodeMoved (description tables.now) bits (object_of about) (while_code (description tables.now) line after node lines rounds) self.old p result self.new }
+    ) -> Result<Move, ReadingFault>
+        requires room { Room (description scene.now.tables.now) (while_code (description scene.now.tables.now) line after node lines rounds) (frames self.old.frames) }
+        ensures { CodeMoved (description scene.now.tables.now) (S.bits scene.now.source.now) (object_of scene.now.about) (while_code (description scene.now.tables.now) line after node lines rounds) self.old scene.now.place result self.new }
     {
-        let m = smaller(lines, after);
+        let m = lines.min(after);
         self.frames.push(Frame::Lines {
             at: line as u32 + 1 + m as u32,
             count: after - m,
         });
-        self.round(tables, about, p, line, node, m, rounds)
+        self.round(scene, line, node, m, rounds)
     }
 }

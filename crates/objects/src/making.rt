@@ -14,7 +14,6 @@ use crate::inside::Inside;
 use crate::values_of::write;
 use records::records::{Class, Extension};
 use table::loaded::Loaded;
-use table::record::record_at;
 use values::evaluate::name_at;
 
 // The lines of a class.
@@ -48,8 +47,8 @@ impl Inside {
         if class == 0 {
             return Inside::idle(extensions.len());
         }
-        let own = record_at(&tables.classes, class as usize);
-        let base = record_at(&tables.classes, own.base as usize);
+        let own = tables.class(class as usize);
+        let base = tables.class(own.base as usize);
         let mut inside = Inside::idle(0);
         inside.frames.push_both(lines_of(own), lines_of(base));
         inside

@@ -9,16 +9,16 @@ ghost use Rattle.objects.specs.Ahead.{Fit, Readable, object_of, inner_of, state}
 ghost use Rattle.objects.specs.Moves.{FrameMoved, InsideMoved};
 
 use crate::frame::Frame;
-use crate::inside::{About, Inside};
+use crate::inside::Inside;
 use crate::lines::{lines_after, value_item};
-use crate::moves::{Move, fault_of};
-use crate::values_of::{is_zero, write};
+use crate::moves::Move;
+use crate::scene::Scene;
+use crate::values_of::write;
 use bits::source::Source;
-use rules::faults::{Failure, ReadingCause};
-use rules::lines::{ReadLine, UseLine};
+use records::statements::{ReadLine, UseLine};
+use rules::faults::{Failure, ReadingCause, ReadingFault};
 use rules::steps::{Got, Window};
-use steps::elements::element;
-use table::loaded::Loaded;
+use values::operators::is_zero;
 
 // Whether the next byte boundary is at or past the window's end.
 fn at_end(window: Window, p: u32) -> bool
@@ -30,132 +30,87 @@ fn at_end(window: Window, p: u32) -> bool
 
 impl Inside {
     // Tests whether another round of a while follows, and begins it.
-    pub(crate) fn round(
+    pub(crate) fn round<S: Source>(
         &mut self,
-        tables: &Loaded,
-        about: About,
-        p: u32,
+        scene: &Scene<S>,
         line: u16,
         node: u16,
         count: u16,
         left: u16,
-    ) -> Move
-        requires fit { Fit (description tables.now) (Rounds line node count left ∷ frames self.old.frames) }
-        requires near { p ≤ 2147483647 }
-        ensures { (bits : List Bool) → FrameMoved (description tables.now) bits (object_of about) (Rounds line node count left) self.old p result self.new }
+    ) -> Result<Move, ReadingFault>
+        requires fit { Fit (description scene.now.tables.now) (Rounds line node count left ∷ frames self.old.frames) }
+        ensures { FrameMoved (description scene.now.tables.now) (S.bits scene.now.source.now) (object_of scene.now.about) (Rounds line node count left) self.old scene.now.place result self.new }
     {
-        match self.value(tables, about, node) {
-            Ok(value) => {
-                if is_zero(value) {
-                    return Move::Quiet { place: p };
-                }
-                if left == 0 {
-                    let failure = Failure {
-                        cause: ReadingCause::TooManyRounds,
-                        node: 0,
-                    };
-                    return Move::Refuse {
-                        fault: fault_of(failure, line, p),
-                    };
-                }
-                let others = Frame::Rounds {
-                    line,
-                    node,
-                    count,
-                    left: left - 1,
-                };
-                self.frames.push_both(others, lines_after(line, count));
-                Move::Quiet { place: p }
-            }
-            Err(failure) => Move::Refuse {
-                fault: fault_of(failure, line, p),
-            },
+        let value = scene.tried(line, self.value(scene, node))?;
+        if is_zero(value) {
+            return Ok(Move::Quiet { place: scene.place });
         }
+        if left == 0 {
+            return Err(Failure::from(ReadingCause::TooManyRounds).at(line, scene.place));
+        }
+        let others = Frame::Rounds {
+            line,
+            node,
+            count,
+            left: left - 1,
+        };
+        self.frames.push_both(others, lines_after(line, count));
+        Ok(Move::Quiet { place: scene.place })
     }
 
-    // One element of a read at a place.
-    fn element<S: Source>(
-        &self,
-        source: &S,
-        tables: &Loaded,
-        about: About,
-        p: u32,
-        fields: ReadLine,
-    ) -> Result<Got, Failure>
-        requires near { p ≤ 2147483647 }
-        requires within { about.window.end ≤ length (S.bits source.now) }
-        ensures value { result ≡ element (S.bits source.now) about.window fields (valued (description tables.now) (S.bits source.now) (object_of about) (state p (inner_of self.now)) fields.width) (valued (description tables.now) (S.bits source.now) (object_of about) (state p (inner_of self.now)) fields.lowest) (valued (description tables.now) (S.bits source.now) (object_of about) (state p (inner_of self.now)) fields.highest) p }
-        ensures bound { IfOk result (λ g. g.after ≤ about.window.end) }
+    // One element of a read.
+    fn element<S: Source>(&self, scene: &Scene<S>, fields: ReadLine) -> Result<Got, Failure>
+        ensures value { result ≡ element (S.bits scene.now.source.now) scene.now.about.window fields (valued (description scene.now.tables.now) (S.bits scene.now.source.now) (object_of scene.now.about) (state scene.now.place (inner_of self.now)) fields.width) (valued (description scene.now.tables.now) (S.bits scene.now.source.now) (object_of scene.now.about) (state scene.now.place (inner_of self.now)) fields.lowest) (valued (description scene.now.tables.now) (S.bits scene.now.source.now) (object_of scene.now.about) (state scene.now.place (inner_of self.now)) fields.highest) scene.now.place }
+        ensures bound { IfOk result (λ g. g.after ≤ scene.now.about.window.end) }
     {
-        element(
-            source,
-            &tables.nodes,
-            &self.names,
-            about.size,
-            about.window,
-            fields,
-            p,
-        )
+        scene
+            .view()
+            .element(&self.scope(scene), fields, scene.place)
     }
 
     // Reads the next element of a read and hands it out, or ends the read.
     pub(crate) fn next_element<S: Source>(
         &mut self,
-        source: &S,
-        tables: &Loaded,
-        about: About,
-        p: u32,
+        scene: &Scene<S>,
         line: u16,
         fields: ReadLine,
         index: u16,
         total: u16,
-    ) -> Move
-        requires fit { Fit (description tables.now) (Elements line fields index total ∷ frames self.old.frames) }
-        requires near { p ≤ 2147483647 }
-        requires within { about.window.end ≤ length (S.bits source.now) }
-        requires short { about.window.end ≤ 2147483647 }
-        ensures { FrameMoved (description tables.now) (S.bits source.now) (object_of about) (Elements line fields index total) self.old p result self.new }
+    ) -> Result<Move, ReadingFault>
+        requires fit { Fit (description scene.now.tables.now) (Elements line fields index total ∷ frames self.old.frames) }
+        ensures { FrameMoved (description scene.now.tables.now) (S.bits scene.now.source.now) (object_of scene.now.about) (Elements line fields index total) self.old scene.now.place result self.new }
     {
         if index >= total {
-            return Move::Quiet { place: p };
+            return Ok(Move::Quiet { place: scene.place });
         }
-        match self.element(source, tables, about, p, fields) {
-            Ok(got) => {
-                write(&mut self.names, fields.name, got.value);
-                self.frames.push(Frame::Elements {
-                    line,
-                    fields,
-                    index: index + 1,
-                    total,
-                });
-                Move::Give {
-                    item: value_item(about, line, index, got),
-                    place: got.after,
-                }
-            }
-            Err(failure) => Move::Refuse {
-                fault: fault_of(failure, line, p),
-            },
-        }
+        let got = scene.tried(line, self.element(scene, fields))?;
+        write(&mut self.names, fields.name, got.value);
+        self.frames.push(Frame::Elements {
+            line,
+            fields,
+            index: index + 1,
+            total,
+        });
+        Ok(Move::Give {
+            item: value_item(scene.about, line, index, got),
+            place: got.after,
+        })
     }
 
     // Begins the next object of a counted use, or ends the use.
-    pub(crate) fn next_counted(
+    pub(crate) fn next_counted<S: Source>(
         &mut self,
-        tables: &Loaded,
-        about: About,
-        p: u32,
+        scene: &Scene<S>,
         line: u16,
         fields: UseLine,
         index: u16,
         total: u16,
-    ) -> Move
-        requires fit { Fit (description tables.now) (Counted line fields index total ∷ frames self.old.frames) }
-        requires near { p ≤ 2147483647 }
-        ensures { (bits : List Bool) → FrameMoved (description tables.now) bits (object_of about) (Counted line fields index total) self.old p result self.new }
+    ) -> Result<Move, ReadingFault>
+        requires fit { Fit (description scene.now.tables.now) (Counted line fields index total ∷ frames self.old.frames) }
+        ensures { FrameMoved (description scene.now.tables.now) (S.bits scene.now.source.now) (object_of scene.now.about) (Counted line fields index total) self.old scene.now.place result self.new }
     {
         if index >= total {
-            return Move::Quiet { place: p };
+            return Ok(Move::Quiet { place: scene.place });
         }
         self.frames.push(Frame::Counted {
             line,
@@ -163,48 +118,39 @@ impl Inside {
             index: index + 1,
             total,
         });
-        Move::Begin {
+        Ok(Move::Begin {
             line,
             fields,
             index,
-        }
+        })
     }
 
     // Begins the next object of a use without a count, or ends the use.
-    pub(crate) fn next_to_end(
+    pub(crate) fn next_to_end<S: Source>(
         &mut self,
-        tables: &Loaded,
-        about: About,
-        p: u32,
+        scene: &Scene<S>,
         line: u16,
         fields: UseLine,
         index: u16,
-    ) -> Move
-        requires fit { Fit (description tables.now) (Uncounted line fields index ∷ frames self.old.frames) }
-        requires near { p ≤ 2147483647 }
-        ensures { (bits : List Bool) → FrameMoved (description tables.now) bits (object_of about) (Uncounted line fields index) self.old p result self.new }
+    ) -> Result<Move, ReadingFault>
+        requires fit { Fit (description scene.now.tables.now) (Uncounted line fields index ∷ frames self.old.frames) }
+        ensures { FrameMoved (description scene.now.tables.now) (S.bits scene.now.source.now) (object_of scene.now.about) (Uncounted line fields index) self.old scene.now.place result self.new }
     {
-        if index < fields.most && !at_end(about.window, p) {
+        if index < fields.most && !at_end(scene.about.window, scene.place) {
             self.frames.push(Frame::Uncounted {
                 line,
                 fields,
                 index: index + 1,
             });
-            return Move::Begin {
+            return Ok(Move::Begin {
                 line,
                 fields,
                 index,
-            };
+            });
         }
         if index < fields.least {
-            let failure = Failure {
-                cause: ReadingCause::TooFew,
-                node: 0,
-            };
-            return Move::Refuse {
-                fault: fault_of(failure, line, p),
-            };
+            return Err(Failure::from(ReadingCause::TooFew).at(line, scene.place));
         }
-        Move::Quiet { place: p }
+        Ok(Move::Quiet { place: scene.place })
     }
 }

@@ -5,21 +5,17 @@ use records::records::Line;
 use records::statements::Statement;
 use table::record::record_at;
 
-// The next line of some lines.
+// The next line of some lines, after which `after` lines are left.
 #[derive(Clone, Copy)]
-pub(crate) enum Upcoming {
-    // none is left
-    NoLine,
-    // a line, after which `after` lines are left
-    Next {
-        line: u16,
-        after: u16,
-        statement: Statement,
-    },
+pub(crate) struct NextLine {
+    pub(crate) line: u16,
+    pub(crate) after: u16,
+    pub(crate) statement: Statement,
 }
 
-// The first of `count` lines from `at` on whose kind there is.
-pub(crate) fn next_line(lines: &[Line], at: u32, count: u16) -> Upcoming
+// The first of `count` lines from `at` on whose kind there is, if there is one. A loop that steps by hand, as it counts the lines that are left
+// and ends where the table does; a chain would look at each line past its end.
+pub(crate) fn next_line(lines: &[Line], at: u32, count: u16) -> Option<NextLine>
     requires { length lines.now ≤ 65534 }
     ensures { Comes lines.now at count result }
 {
@@ -27,19 +23,19 @@ pub(crate) fn next_line(lines: &[Line], at: u32, count: u16) -> Upcoming
     let mut left = count;
     while left > 0 {
         if line as usize > lines.len() {
-            return Upcoming::NoLine;
+            return None;
         }
         left -= 1;
-        match record_at(lines, line as usize).statement() {
+        match Statement::from(record_at(lines, line as usize)) {
             Statement::Unknown => line += 1,
             statement => {
-                return Upcoming::Next {
+                return Some(NextLine {
                     line: line as u16,
                     after: left,
                     statement,
-                };
+                });
             }
         }
     }
-    Upcoming::NoLine
+    None
 }

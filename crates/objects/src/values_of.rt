@@ -2,15 +2,16 @@ ghost use Rattle.std.specs.Prelude.{◌≡◌, ℕ, ◌≤◌, Bool, List};
 ghost use Rattle.table.specs.Description.{description};
 ghost use Rattle.rules.specs.Reading.{write, counted};
 ghost use Rattle.rules.specs.Steps.{natural};
-ghost use Rattle.rules.specs.Values.{value, is_zero};
+ghost use Rattle.rules.specs.Values.{value};
 ghost use Rattle.values.specs.Names.{named_by};
 ghost use Rattle.objects.specs.Ahead.{inner_of, object_of, state};
 
-use crate::inside::{About, Inside};
+use crate::inside::Inside;
+use crate::scene::Scene;
+use bits::source::Source;
 use rules::faults::Failure;
 use steps::numbers::natural;
-use table::loaded::Loaded;
-use values::evaluate::evaluate;
+use values::evaluate::Scope;
 
 // A value goes to a name; name 0 says none.
 pub fn write(names: &mut [i64; 128], name: u16, value: i64)
@@ -23,45 +24,44 @@ pub fn write(names: &mut [i64; 128], name: u16, value: i64)
 }
 
 impl Inside {
-    // The value of a node in the object.
-    pub(crate) fn value(&self, tables: &Loaded, about: About, node: u16) -> Result<i64, Failure>
-        ensures { result ≡ value (description tables.now).nodes about.size (named_by self.now.names) node }
+    // What the object's values are worked out from.
+    pub(crate) fn scope<'a, S: Source>(&'a self, scene: &'a Scene<S>) -> Scope<'a>
+        ensures nodes { result.nodes.now ≡ (description scene.now.tables.now).nodes }
+        ensures names { result.names.now ≡ self.now.names }
+        ensures size { result.size ≡ scene.now.about.size }
     {
-        evaluate(&tables.nodes, &self.names, about.size, node)
-    }
-
-    // A count from 0 to 65,535, as a node gives it.
-    pub(crate) fn count(&self, tables: &Loaded, about: About, node: u16) -> Result<u16, Failure>
-        ensures { result ≡ natural 65535 (value (description tables.now).nodes about.size (named_by self.now.names) node) }
-    {
-        match self.value(tables, about, node) {
-            Ok(value) => match natural(65535, value) {
-                Ok(count) => Ok(count as u16),
-                Err(failure) => Err(failure),
-            },
-            Err(failure) => Err(failure),
+        Scope {
+            nodes: &scene.tables.nodes,
+            names: &self.names,
+            size: scene.about.size,
         }
     }
 
+    // The value of a node in the object.
+    pub(crate) fn value<S: Source>(&self, scene: &Scene<S>, node: u16) -> Result<i64, Failure>
+        ensures { result ≡ value (description scene.now.tables.now).nodes scene.now.about.size (named_by self.now.names) node }
+    {
+        self.scope(scene).value(node)
+    }
+
+    // A count from 0 to 65,535, as a node gives it.
+    pub(crate) fn count<S: Source>(&self, scene: &Scene<S>, node: u16) -> Result<u16, Failure>
+        ensures { result ≡ natural 65535 (value (description scene.now.tables.now).nodes scene.now.about.size (named_by self.now.names) node) }
+    {
+        Ok(natural(65535, self.value(scene, node)?)? as u16)
+    }
+
     // The same; without a node the count is 1.
-    pub(crate) fn count_or_one(
+    pub(crate) fn count_or_one<S: Source>(
         &self,
-        tables: &Loaded,
-        about: About,
+        scene: &Scene<S>,
         node: u16,
     ) -> Result<u16, Failure>
-        ensures { (bits : List Bool) (p : ℕ) → result ≡ counted (description tables.now) bits (object_of about) (state p (inner_of self.now)) node }
+        ensures { result ≡ counted (description scene.now.tables.now) (S.bits scene.now.source.now) (object_of scene.now.about) (state scene.now.place (inner_of self.now)) node }
     {
         if node == 0 {
             return Ok(1);
         }
-        self.count(tables, about, node)
+        self.count(scene, node)
     }
-}
-
-// Whether a value is 0, which is false.
-pub(crate) fn is_zero(value: i64) -> bool
-    ensures { result ≡ is_zero value }
-{
-    value == 0
 }

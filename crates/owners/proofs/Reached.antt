@@ -1,15 +1,13 @@
 -- The recursion equation of `reaches`, with no bound in it.
 use Rattle.std.proofs.Common.{◌≡◌, ℕ, zero, suc, ◌+◌, ◌<◌, ◌≤◌, Bool, true, false, ◌&&◌, ◌||◌, eqb, ltb, List, length, get_or, set, replicate, sym, refl, ap, ◌∙◌, inl, inr, arith, get_or-set_other, ltb-true, ne_eqb}
-use mathlib.Core.Path.{fun_ext}
 use lib.ListN.{get_or-replicate, length-replicate}
 use Rattle.std.proofs.lemmas.List.Edits.{fill_by_more}
 use Rattle.std.proofs.lemmas.List.{get_or_past}
+use Rattle.std.proofs.lemmas.Bool.{false≢true}
 use Rattle.std.proofs.lemmas.Bool.Decides.{leb_tells}
-use Rattle.fields.specs.Nodes.{is_operator}
+use Rattle.fields.specs.Nodes.{is_operator, takes_name}
 use Rattle.table.specs.Description.{Description, node_at, no_node}
 use Rattle.table.proofs.Scans.{entry_none, entry_zero}
-use Rattle.owners.specs.Lines.{class_of_line}
-use Rattle.owners.specs.Names.{may_not_take, takes_wrong}
 use Rattle.owners.specs.Reach.{reaches_by, reaches_within, reaches}
 
 -- only where the test passes
@@ -71,8 +69,14 @@ module _ (d : Description) (x : ℕ) (marks : List Bool) (i : ℕ) where
   pub unmarked_more : (b : Bool) → ((k : ℕ) → i < k → get_or marks k false ≡ false) → (k : ℕ) → i + 1 < k → get_or (set marks (i + 1) b) k false ≡ false
   unmarked_more b inv k h = get_or-set_other marks (i + 1) k b false (λ e. omega arith) ∙ inv k (omega arith)
 
--- marks that say which nodes are reached
-pub wrong_said : (d : Description) (x n : ℕ) (marks : List Bool) (c name : ℕ) (b : Bool) → ((r : ℕ) → get_or marks r false ≡ reaches d x r) → c ≡ class_of_line d n → name ≡ (node_at d x).a → b ≡ may_not_take d (λ v. get_or marks v false) c name n → b ≡ takes_wrong d x n
-wrong_said d x n marks c name b h e f q =
-    let g : (λ r. get_or marks r false) ≡ reaches d x = fun_ext h in
-    q ∙ ap (λ (p : ℕ → Bool). may_not_take d p c name n) g ∙ rw (e, f)
+-- what takes a name is a node that is there
+takes_no_name : (x : ℕ) (d : Description) → node_at d x ≡ no_node → takes_name (node_at d x) ≡ true → ⊥
+takes_no_name x d e t = let f : takes_name no_node ≡ true = rw e at t in false≢true f
+
+pub taker_there : (d : Description) (x : ℕ) → takes_name (node_at d x) ≡ true → (0 < x) × (x ≤ length d.nodes)
+taker_there d zero t = absurd (takes_no_name 0 d (sym (entry_zero d.nodes 0 no_node refl)) t)
+taker_there d (suc k) t =
+    elim (leb_tells (suc k) (length d.nodes)) [
+      | inl h ↦ (omega arith, h.1)
+      | inr h ↦ absurd (takes_no_name (suc k) d (sym (entry_none d.nodes (suc k) no_node (omega (arith, h.1)))) t)
+    ]

@@ -1,5 +1,6 @@
 -- A line, and the nodes that it reaches, name what the line's class or its base owns; a carried name is the used class's.
 use Rattle.std.specs.Prelude.{ℕ, Bool, false, not, ◌&&◌, ◌||◌, length, ◌==◌}
+use Rattle.records.specs.Statements.{written}
 use Rattle.records.specs.declared.statements.Statement.{Statement}
 use Rattle.records.specs.declared.statements.Statement.TheVariants.{Read, Assign, MapRead, Use, If, While, Unknown}
 use Rattle.fields.specs.Nodes.{takes_name}
@@ -13,16 +14,6 @@ use Rattle.owners.specs.Reach.{reaches, line_has}
 abbrev pub owned_by : Description → (c n : ℕ) → Bool
 owned_by d c n = (name_at d n).owner == c || (name_at d n).owner == (class_at d c).base
 
--- the name that a line writes, 0 if none
-abbrev pub written : Statement → ℕ
-written (Read signed width name count alignment ahead lowest highest) = name
-written (Assign name node) = name
-written (MapRead map name) = name
-written (Use class count least most carried receiving) = receiving
-written (If node first second) = 0
-written (While node lines rounds) = 0
-written Unknown = 0
-
 abbrev pub writes_wrong : Description → (c : ℕ) → Statement → Bool
 writes_wrong d c s = not (written s == 0) && not (owned_by d c (written s))
 
@@ -33,10 +24,10 @@ carry_wrong d class carried =
     && (not ((name_at d carried).owner == class) || in_family d class && expandable d class)
 
 abbrev pub carries_wrong : Description → Statement → Bool
-carries_wrong d (Read signed width name count alignment ahead lowest highest) = false
+carries_wrong d (Read fields) = false
 carries_wrong d (Assign name node) = false
 carries_wrong d (MapRead map name) = false
-carries_wrong d (Use class count least most carried receiving) = carry_wrong d class carried
+carries_wrong d (Use fields) = carry_wrong d fields.class fields.carried
 carries_wrong d (If node first second) = false
 carries_wrong d (While node lines rounds) = false
 carries_wrong d Unknown = false

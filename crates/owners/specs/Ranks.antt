@@ -17,10 +17,10 @@ not_below d user c u = used_by d c u && nat_le (class_at d user).rank (class_at 
 
 -- a line of class `user` uses what does not rank below it
 abbrev pub uses_wrong : Description → (user : ℕ) → Statement → Bool
-uses_wrong d user (Read signed width name count alignment ahead lowest highest) = false
+uses_wrong d user (Read fields) = false
 uses_wrong d user (Assign name node) = false
 uses_wrong d user (MapRead map name) = false
-uses_wrong d user (Use class count least most carried receiving) = some_upto (not_below d user class) (length d.classes)
+uses_wrong d user (Use fields) = some_upto (not_below d user fields.class) (length d.classes)
 uses_wrong d user (If node first second) = false
 uses_wrong d user (While node lines rounds) = false
 uses_wrong d user Unknown = false

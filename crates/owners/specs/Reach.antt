@@ -23,11 +23,11 @@ reaches d x r = reaches_within d x (suc r) r
 
 -- a line has a node that passes in one of its fields
 abbrev pub line_has : (passes : ℕ → Bool) → Statement → Bool
-line_has passes (Read signed width name count alignment ahead lowest highest) =
-    passes width || passes count || passes lowest || passes highest
+line_has passes (Read fields) =
+    passes fields.width || passes fields.count || passes fields.lowest || passes fields.highest
 line_has passes (Assign name node) = passes node
 line_has passes (MapRead map name) = false
-line_has passes (Use class count least most carried receiving) = passes count
+line_has passes (Use fields) = passes fields.count
 line_has passes (If node first second) = passes node
 line_has passes (While node lines rounds) = passes node
 line_has passes Unknown = false

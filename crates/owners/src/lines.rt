@@ -1,42 +1,53 @@
-ghost use Rattle.std.specs.Prelude.{◌≡◌, ℕ, ◌+◌, ◌<◌, ◌≤◌, length, slice_index};
+ghost use Rattle.std.specs.Prelude.{◌≡◌, ℕ, ◌+◌, ◌<◌, slice_index};
 ghost use Rattle.table.specs.Description.{description};
 ghost use Rattle.owners.specs.Lines.{class_of_line};
 
-use blocks::stretches::{InClass, InExtension, extension_at};
+use blocks::stretches::{in_class, in_extension};
 use passes::first::first;
+use std::array::from_fn;
 use table::loaded::Loaded;
 
 // The most lines that there are.
 const MOST_LINES: usize = 512;
 
-// The class whose stretch, or whose extension's stretch, holds line n.
+// The class whose stretch, or whose extension's stretch, holds line n, 0 if none does. No Option: records say none by 0, and a look-up of 0 is defined.
 pub fn class_of_line(loaded: &Loaded, n: usize) -> usize
     ensures { result ≡ class_of_line (description loaded.now) n }
 {
-    match first(&InClass { line: n }, loaded, loaded.classes.len()) {
-        Some(c) => c,
-        None => match first(&InExtension { line: n }, loaded, loaded.extensions.len()) {
-            Some(e) => extension_at(loaded, e).class as usize,
-            None => 0,
-        },
-    }
+    first(loaded.classes.len(), |c| in_class(loaded, n, c)).unwrap_or_else(|| {
+        let extension = first(loaded.extensions.len(), |e| in_extension(loaded, n, e));
+        extension.map_or(0, |e| loaded.extension(e).class as usize)
+    })
 }
 
-// How many lines there are.
-pub(crate) fn line_count(loaded: &Loaded) -> usize
-    ensures value { result ≡ length (description loaded.now).lines }
-    ensures bound { result ≤ 512 }
-{
-    loaded.lines.len()
+// The classes of a description's lines, each searched once. In a fixed array, as the check allocates nothing and so cannot fail.
+#[derive(Drop)]
+pub(crate) struct LineClasses<'d> {
+    pub(crate) loaded: &'d Loaded,
+    // of line n at n - 1
+    classes: [usize; MOST_LINES],
+    ghost found: { (k : ℕ) → k < 512 → slice_index classes k ≡ class_of_line (description loaded.now) (k + 1) },
 }
 
-// The class of each line, of line n at n - 1.
-pub(crate) fn classes_of_lines(loaded: &Loaded) -> [usize; MOST_LINES]
-    ensures { (k : ℕ) → k < length (description loaded.now).lines → slice_index result k ≡ class_of_line (description loaded.now) (k + 1) }
-{
-    let mut classes = [0; MOST_LINES];
-    for i in 0..line_count(loaded) {
-        classes[i] = class_of_line(loaded, i + 1);
+impl<'d> LineClasses<'d> {
+    // The classes of the lines of this description.
+    pub(crate) fn of(loaded: &'d Loaded) -> LineClasses<'d>
+        ensures { result.loaded.now ≡ loaded.now }
+    {
+        LineClasses {
+            loaded,
+            classes: from_fn(|i| class_of_line(loaded, i + 1)),
+        }
     }
-    classes
+
+    // The class of line n.
+    pub(crate) fn class_of(&self, n: usize) -> usize
+        ensures { result ≡ class_of_line (description self.now.loaded.now) n }
+    {
+        if n == 0 || n > MOST_LINES {
+            class_of_line(self.loaded, n)
+        } else {
+            self.classes[n - 1]
+        }
+    }
 }

@@ -1,13 +1,13 @@
-ghost use Rattle.std.specs.Prelude.{◌≡◌, ℕ, ◌+◌, ◌<◌, ◌≤◌, false, length, slice_index, slice_index_or};
+ghost use Rattle.std.specs.Prelude.{◌≡◌, ◌<◌, ◌≤◌, false, length, slice_index_or};
 ghost use Rattle.table.specs.Description.{description};
 ghost use Rattle.table.specs.First.{first_upto, some_upto};
-ghost use Rattle.owners.specs.Lines.{class_of_line};
 ghost use Rattle.owners.specs.Names.{may_not_take, takes_wrong, node_owner};
 
-use crate::lines::{classes_of_lines, line_count};
+use crate::lines::LineClasses;
 use crate::names::owned_by;
-use crate::reach::{has_marked, node_at, node_count, reaching};
+use crate::reach::{has_marked, reaching};
 use fields::nodes::takes_name;
+use passes::first::{first, some};
 use table::loaded::Loaded;
 
 // Whether line n, of class c, has a marked node in its fields and may not take the name.
@@ -17,38 +17,30 @@ fn may_not_take(loaded: &Loaded, marks: &[bool], c: usize, name: usize, n: usize
     has_marked(marks, loaded.statement(n)) && !owned_by(loaded, c, name)
 }
 
-// Whether some line reaches node x, and may not take the name that it takes. The class of line n stands at n - 1.
-fn taken_wrongly(loaded: &Loaded, classes: &[usize], x: usize) -> bool
-    requires { (0 < x) × ((x ≤ length (description loaded.now).nodes) × ((length classes.now ≡ 512) × (((k : ℕ) → k < length (description loaded.now).lines → slice_index classes.now k ≡ class_of_line (description loaded.now) (k + 1))))) }
-    ensures { result ≡ some_upto (takes_wrong (description loaded.now) x) (length (description loaded.now).lines) }
+// Whether some line reaches node x, and may not take the name that it takes.
+fn taken_wrongly(classes: &LineClasses, x: usize) -> bool
+    requires { (0 < x) × (x ≤ length (description classes.now.loaded.now).nodes) }
+    ensures { result ≡ some_upto (takes_wrong (description classes.now.loaded.now) x) (length (description classes.now.loaded.now).lines) }
 {
+    let loaded = classes.loaded;
     let marks = reaching(loaded, x);
-    let name = node_at(loaded, x).a as usize;
-    for i in 0..line_count(loaded) {
-        if may_not_take(loaded, &marks, classes[i], name, i + 1) {
-            return true;
-        }
-    }
-    false
+    let name = loaded.node(x).a as usize;
+    some(loaded.lines.len(), |n| {
+        may_not_take(loaded, &marks, classes.class_of(n), name, n)
+    })
 }
 
 // Whether node x takes a name which is not its line's to take.
-fn node_wrong(loaded: &Loaded, classes: &[usize], x: usize) -> bool
-    requires { (0 < x) × ((x ≤ length (description loaded.now).nodes) × ((length classes.now ≡ 512) × (((k : ℕ) → k < length (description loaded.now).lines → slice_index classes.now k ≡ class_of_line (description loaded.now) (k + 1))))) }
-    ensures { result ≡ node_owner (description loaded.now) x }
+fn node_owner(classes: &LineClasses, x: usize) -> bool
+    ensures { result ≡ node_owner (description classes.now.loaded.now) x }
 {
-    takes_name(node_at(loaded, x)) && taken_wrongly(loaded, classes, x)
+    takes_name(classes.loaded.node(x)) && taken_wrongly(classes, x)
 }
 
 // The first node that takes a name which is not its line's to take.
 pub fn first_taken_wrongly(loaded: &Loaded) -> Option<usize>
     ensures { result ≡ first_upto (node_owner (description loaded.now)) (length (description loaded.now).nodes) }
 {
-    let classes = classes_of_lines(loaded);
-    for i in 0..node_count(loaded) {
-        if node_wrong(loaded, &classes, i + 1) {
-            return Some(i + 1);
-        }
-    }
-    None
+    let classes = LineClasses::of(loaded);
+    first(loaded.nodes.len(), |x| node_owner(&classes, x))
 }

@@ -3,8 +3,7 @@ ghost use Rattle.table.specs.Description.{description};
 ghost use Rattle.owners.specs.Ranks.{used_by, not_below, uses_wrong, line_rank};
 
 use crate::lines::class_of_line;
-use passes::families::class_at;
-use passes::first::{Test, some};
+use passes::first::some;
 use records::statements::Statement;
 use table::loaded::Loaded;
 
@@ -12,25 +11,15 @@ use table::loaded::Loaded;
 fn used_by(loaded: &Loaded, used: usize, u: usize) -> bool
     ensures { result ≡ used_by (description loaded.now) used u }
 {
-    let object = class_at(loaded, u);
-    u == used
-        || class_at(loaded, used).is_base() && object.is_member() && object.base as usize == used
+    let object = loaded.class(u);
+    u == used || loaded.class(used).is_base() && object.is_member() && object.base as usize == used
 }
 
-// Whether the rank of a class that a use can make is not below the user's.
-#[derive(Clone, Copy)]
-pub struct NotBelow {
-    pub user: usize,
-    pub used: usize,
-}
-
-impl Test for NotBelow {
-    ghost passes = { λ t d u. not_below d t.user t.used u };
-
-    fn holds(&self, loaded: &Loaded, n: usize) -> bool {
-        used_by(loaded, self.used, n)
-            && class_at(loaded, self.user).rank <= class_at(loaded, n).rank
-    }
+// Whether it can, and the rank of class `u` is not below the user's.
+fn not_below(loaded: &Loaded, user: usize, used: usize, u: usize) -> bool
+    ensures { result ≡ not_below (description loaded.now) user used u }
+{
+    used_by(loaded, used, u) && loaded.class(user).rank <= loaded.class(u).rank
 }
 
 // Whether a line of class `user` uses what does not rank below it.
@@ -38,26 +27,16 @@ fn uses_wrong(loaded: &Loaded, user: usize, s: Statement) -> bool
     ensures { result ≡ uses_wrong (description loaded.now) user s }
 {
     match s {
-        Statement::Use { class, .. } => some(
-            &NotBelow {
-                user,
-                used: class as usize,
-            },
-            loaded,
-            loaded.classes.len(),
-        ),
+        Statement::Use(line) => some(loaded.classes.len(), |u| {
+            not_below(loaded, user, line.class as usize, u)
+        }),
         _ => false,
     }
 }
 
-// Whether a line uses what does not rank below its class.
-#[derive(Clone, Copy)]
-pub struct LineRank;
-
-impl Test for LineRank {
-    ghost passes = { λ _ d n. line_rank d n };
-
-    fn holds(&self, loaded: &Loaded, n: usize) -> bool {
-        uses_wrong(loaded, class_of_line(loaded, n), loaded.statement(n))
-    }
+// Whether line n uses what does not rank below its class.
+pub(crate) fn line_rank(loaded: &Loaded, n: usize) -> bool
+    ensures { result ≡ line_rank (description loaded.now) n }
+{
+    uses_wrong(loaded, class_of_line(loaded, n), loaded.statement(n))
 }

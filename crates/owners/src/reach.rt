@@ -1,25 +1,16 @@
 ghost use Rattle.std.specs.Prelude.{◌≡◌, ℕ, ◌<◌, ◌≤◌, false, ◌&&◌, length, get_or, nat_lt, slice_index_or};
-ghost use Rattle.table.specs.Description.{description, node_at};
+ghost use Rattle.table.specs.Description.{description};
 ghost use Rattle.owners.specs.Reach.{reaches_by, reaches, line_has};
 
 use fields::nodes::is_operator;
-use records::records::Node;
 use records::statements::Statement;
 use table::loaded::Loaded;
-use table::record::record_at;
 
 // One more than the most nodes that there are.
 const NODES: usize = 257;
 
-// Node number n.
-pub(crate) fn node_at(loaded: &Loaded, n: usize) -> Node
-    ensures { result ≡ node_at (description loaded.now) n }
-{
-    record_at(&loaded.nodes, n)
-}
-
 // How many nodes there are.
-pub(crate) fn node_count(loaded: &Loaded) -> usize
+fn node_count(loaded: &Loaded) -> usize
     ensures value { result ≡ length (description loaded.now).nodes }
     ensures bound { result ≤ 256 }
 {
@@ -30,11 +21,7 @@ pub(crate) fn node_count(loaded: &Loaded) -> usize
 fn marked(marks: &[bool], r: u16) -> bool
     ensures { result ≡ slice_index_or marks.now r false }
 {
-    if (r as usize) < marks.len() {
-        marks[r as usize]
-    } else {
-        false
-    }
+    marks.get(r as usize).copied().unwrap_or(false)
 }
 
 // Whether node v is before node r, and marked.
@@ -48,12 +35,13 @@ fn marked_before(marks: &[bool], v: u16, r: usize) -> bool
 fn marks_next(loaded: &Loaded, marks: &[bool], x: usize, r: usize) -> bool
     ensures { result ≡ reaches_by (λ v. get_or marks.now v false) (description loaded.now) x r }
 {
-    let node = node_at(loaded, r);
+    let node = loaded.node(r);
     r == x
         || is_operator(node) && (marked_before(marks, node.a, r) || marked_before(marks, node.b, r))
 }
 
-// Which nodes are, or are worked out from, node x.
+// Which nodes are, or are worked out from, node x: a loop, as each mark is told from those before it, over a fixed array, as the
+// check allocates nothing and so cannot fail.
 pub(crate) fn reaching(loaded: &Loaded, x: usize) -> [bool; NODES]
     requires { (0 < x) × (x ≤ length (description loaded.now).nodes) }
     ensures { (r : ℕ) → slice_index_or result r false ≡ reaches (description loaded.now) x r }
@@ -70,22 +58,16 @@ pub(crate) fn has_marked(marks: &[bool], s: Statement) -> bool
     ensures { result ≡ line_has (λ r. get_or marks.now r false) s }
 {
     match s {
-        Statement::Read {
-            width,
-            count,
-            lowest,
-            highest,
-            ..
-        } => {
-            marked(marks, width)
-                || marked(marks, count)
-                || marked(marks, lowest)
-                || marked(marks, highest)
+        Statement::Read(line) => {
+            marked(marks, line.width)
+                || marked(marks, line.count)
+                || marked(marks, line.lowest)
+                || marked(marks, line.highest)
         }
         Statement::Assign { node, .. }
         | Statement::If { node, .. }
         | Statement::While { node, .. } => marked(marks, node),
-        Statement::Use { count, .. } => marked(marks, count),
+        Statement::Use(line) => marked(marks, line.count),
         Statement::MapRead { .. } | Statement::Unknown => false,
     }
 }

@@ -1,3 +1,4 @@
 pub mod Families
 pub mod Naming
 pub mod Stretches
+pub mod Tests

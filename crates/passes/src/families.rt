@@ -1,26 +1,17 @@
 ghost use Rattle.std.specs.Prelude.{◌≡◌};
-ghost use Rattle.table.specs.Description.{description, class_at};
+ghost use Rattle.table.specs.Description.{description};
 ghost use Rattle.passes.specs.Families.{family, in_family, expandable};
 
-use records::records::Class;
 use table::loaded::Loaded;
-use table::record::record_at;
 
-// Class number n.
-pub fn class_at(loaded: &Loaded, n: usize) -> Class
-    ensures { result ≡ class_at (description loaded.now) n }
-{
-    record_at(&loaded.classes, n)
-}
-
-// The number of the base of a class's family, 0 for a class in no family.
+// The number of the base of a class's family, 0 for a class in no family. No Option: records say none by 0, and a look-up of 0 is defined.
 pub fn family(loaded: &Loaded, n: usize) -> usize
     ensures { result ≡ family (description loaded.now) n }
 {
-    let class = class_at(loaded, n);
+    let class = loaded.class(n);
     if class.is_base() {
         n
-    } else if class.is_member() && class_at(loaded, class.base as usize).is_base() {
+    } else if class.is_member() && loaded.class(class.base as usize).is_base() {
         class.base as usize
     } else {
         0
@@ -38,10 +29,10 @@ pub fn in_family(loaded: &Loaded, n: usize) -> bool
 pub fn expandable(loaded: &Loaded, n: usize) -> bool
     ensures { result ≡ expandable (description loaded.now) n }
 {
-    let class = class_at(loaded, n);
+    let class = loaded.class(n);
     if class.is_plain() {
         class.greatest > 0
     } else {
-        class_at(loaded, family(loaded, n)).greatest > 0
+        loaded.class(family(loaded, n)).greatest > 0
     }
 }

@@ -1,24 +1,16 @@
 ghost use Rattle.std.specs.Prelude.{◌≡◌, ℕ, ◌≤◌, Bool};
-ghost use Rattle.table.specs.Description.{Description, description};
 ghost use Rattle.table.specs.First.{first_upto, some_upto, count_upto};
+ghost use Rattle.passes.specs.Tests.{Answers};
 
-use table::loaded::Loaded;
-
-// A test of the records of a table, by their numbers.
-pub trait Test {
-    // whether record n passes
-    ghost passes: { Self → Description → ℕ → Bool };
-
-    fn holds(&self, loaded: &Loaded, n: usize) -> bool
-        ensures { result ≡ passes self.now (description loaded.now) n };
-}
-
-// The first record, of those numbered 1 to `count`, that passes the test.
-pub fn first<P: Test>(test: &P, loaded: &Loaded, count: usize) -> Option<usize>
-    ensures { result ≡ first_upto (P.passes test.now (description loaded.now)) count }
+// The first of the numbers 1 to `count` that passes the test. A loop and no chain: the library says nothing of what `1..=count` yields,
+// and from 0 each number would be turned twice.
+#[tactic(auto, using(table::proofs::Scans::first_none, table::proofs::Scans::first_found, table::proofs::Scans::first_passed))]
+pub fn first<F: Fn(usize) -> bool>(count: usize, test: F) -> Option<usize>
+    requires { F.IsAlwaysCallable test }
+    ensures { (p : ℕ → Bool) → Answers F.post test p → result ≡ first_upto p count }
 {
     for i in 0..count {
-        if test.holds(loaded, i + 1) {
+        if test(i + 1) {
             return Some(i + 1);
         }
     }
@@ -26,23 +18,23 @@ pub fn first<P: Test>(test: &P, loaded: &Loaded, count: usize) -> Option<usize>
 }
 
 // Whether one of them passes.
-pub fn some<P: Test>(test: &P, loaded: &Loaded, count: usize) -> bool
-    ensures { result ≡ some_upto (P.passes test.now (description loaded.now)) count }
+pub fn some<F: Fn(usize) -> bool>(count: usize, test: F) -> bool
+    requires { F.IsAlwaysCallable test }
+    ensures { (p : ℕ → Bool) → Answers F.post test p → result ≡ some_upto p count }
 {
-    match first(test, loaded, count) {
-        Some(_) => true,
-        None => false,
-    }
+    first(count, test).is_some()
 }
 
-// How many of them pass.
-pub fn count<P: Test>(test: &P, loaded: &Loaded, count: usize) -> usize
-    ensures value { result ≡ count_upto (P.passes test.now (description loaded.now)) count }
+// How many of them pass. A loop for the same reason.
+#[tactic(auto, using(table::proofs::Scans::count_none, table::proofs::Scans::count_passed, table::proofs::Scans::count_left))]
+pub fn count<F: Fn(usize) -> bool>(count: usize, test: F) -> usize
+    requires { F.IsAlwaysCallable test }
+    ensures value { (p : ℕ → Bool) → Answers F.post test p → result ≡ count_upto p count }
     ensures bound { result ≤ count }
 {
     let mut found = 0;
     for i in 0..count {
-        if test.holds(loaded, i + 1) {
+        if test(i + 1) {
             found += 1;
         }
     }

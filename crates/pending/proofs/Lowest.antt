@@ -1,6 +1,7 @@
 -- The lowest index of a map that gives a value, row by row.
-use Rattle.std.proofs.Common.{◌≡◌, ℕ, zero, suc, ◌+◌, ◌^◌, ◌<◌, ◌≤◌, Bool, true, false, cond, not, ◌&&◌, eqb, ltb, ℤ, is_ok, Ok, Err, sym, refl, ap, ◌∙◌, subst, inl, inr, add-zero, arith}
-use Rattle.std.proofs.lemmas.Bool.{lt-ltb, ltb-true, eq-eqb, eqb-true, false≢true, and_parts, cases_lt}
+use Rattle.std.proofs.Common.{◌≡◌, ℕ, zero, suc, ◌+◌, ◌^◌, ◌<◌, ◌≤◌, Bool, true, false, cond, not, ◌&&◌, T, eqb, ltb, ℤ, is_ok, Ok, Err, sym, refl, ap, ◌∙◌, subst, inl, inr, add-zero, arith}
+use Rattle.std.proofs.lemmas.Bool.{lt-ltb, ltb-true, eq-eqb, eqb-true, false≢true, and_parts, cases_lt, false_from_ne_true}
+use Rattle.roundtrip.proofs.Again.{gives_ok, ok_gives}
 use Rattle.records.specs.declared.records.Row.{Row}
 use Rattle.table.specs.Description.{Description, row_at}
 use Rattle.rules.specs.declared.faults.ReadingCause.TheVariants.{NoSuchIndex}
@@ -8,7 +9,8 @@ use Rattle.rules.specs.Checks.{Check, fails, pick}
 use Rattle.rules.specs.Lookups.{output, find_row}
 use Rattle.rules.specs.Values.{same}
 use Rattle.roundtrip.specs.Own.{gives_value, first_such, lowest_index}
-use Rattle.roundtrip.proofs.Numbers.{of_true, true_of, same_eq, same_refl}
+use Rattle.rules.proofs.Booleans.{true_of}
+use Rattle.roundtrip.proofs.Numbers.{same_eq, same_refl}
 
 -- the first number that passes a test, or the one after all of them
 first_is : (f : ℕ → Bool) (n x y : ℕ) → x ≤ y → y ≤ x + n → (y < x + n → f y ≡ true) → ((z : ℕ) → x ≤ z → z < y → f z ≡ false) → first_such f n x ≡ y
@@ -25,22 +27,14 @@ pub record Lowest (width : ℕ) (outputs : ℕ → Check ℤ) (v : ℤ) (lowest 
   pub gives : lowest < 2 ^ width → outputs lowest ≡ Ok v
   pub none : (x : ℕ) → x < lowest → outputs x ≡ Ok v → ⊥
 
-gives_true : (v : ℤ) (c : Check ℤ) → c ≡ Ok v → gives_value v c ≡ true
-gives_true v c e = ap (gives_value v) e ∙ true_of (same v v) (same_refl v)
-
 gives_false : (v : ℤ) (c : Check ℤ) → (c ≡ Ok v → ⊥) → gives_value v c ≡ false
-gives_false v (Ok u) h = go (same u v) refl
-  where
-    go : (b : Bool) → same u v ≡ b → same u v ≡ false
-    go true e = absurd (h (ap (λ z. Ok z) (same_eq u v (of_true (same u v) e))))
-    go false e = e
-gives_false v (Err f) h = refl
+gives_false v c h = false_from_ne_true (gives_value v c) (λ t. h (gives_ok v c (subst T (sym t) tt)))
 
 pub lowest_is : (width : ℕ) (outputs : ℕ → Check ℤ) (v : ℤ) (lowest : ℕ) → Lowest width outputs v lowest → lowest ≡ lowest_index width outputs v
 unfolding lowest_index
 lowest_is width outputs v lowest l =
     sym (first_is (λ x. gives_value v (outputs x)) (2 ^ width) 0 lowest (omega arith) (let w = l.within in omega arith)
-    (λ h. gives_true v (outputs lowest) (l.gives (omega arith)))
+    (λ h. true_of _ (ok_gives v (outputs lowest) (l.gives (omega arith))))
     (λ z u h. gives_false v (outputs z) (l.none z h)))
 
 -- what a further row adds
@@ -107,7 +101,7 @@ module _ (d : Description) (at n width : ℕ) (v : ℤ) (lowest : ℕ) (so_far :
       subst (λ k. Lowest width (find_row d at k) v r.index) (let e : suc n ≡ n + 1 = omega arith in e)
       (record {
         within = omega arith;
-        gives = λ h. one_more d at n r.index ∙ here (find_row d at n r.index) q.1 ∙ ap (λ z. Ok z) (same_eq (output r) v (of_true (same (output r) v) p.0));
+        gives = λ h. one_more d at n r.index ∙ here (find_row d at n r.index) q.1 ∙ ap (λ z. Ok z) (same_eq (output r) v (subst T (sym p.0) tt));
         none = λ x h e.
             no_lower r v r.index x (find_row d at n x) h (so_far.none x (omega arith)) (λ i. absurd (let z : ⊥ = omega arith in z)) (sym (one_more d at n x) ∙ e);
       })

@@ -10,9 +10,7 @@ use Rattle.bits.proofs.Gets.{got, get_limited}
 use Rattle.rules.specs.declared.items.Item.{Item}
 use Rattle.table.specs.Description.{Description}
 use Rattle.roundtrip.specs.Own.{own_bits, end_of, pending}
-use Rattle.roundtrip.specs.Standing.{Fits}
 use Rattle.roundtrip.specs.Writing.{appended}
-use Rattle.roundtrip.proofs.Begun.{pending-fits}
 use Rattle.pending.specs.Trial.{trial_bits}
 
 -- a number in fewer bits, and then in fewer still
@@ -104,15 +102,6 @@ trial_pending d i L place w v h e f =
     limited-whole (trial_bits L place w v) (rw (length_trial L place w v) h)
     ∙ ap (λ t. take L (replicate t false ++ (bits_of w v ++ replicate L false))) e
     ∙ ap (λ t. take L (replicate i.place false ++ (t ++ replicate L false))) f
-
--- they have what putting the item appends
-pub trial_fits : (d : Description) (i : Item) (L place w v p : ℕ) → L ≤ longest → place ≡ i.place → bits_of w v ≡ own_bits d i → end_of d i ≤ L →
-    Fits d p i (limited (trial_bits L place w v))
-trial_fits d i L place w v p h e f l = rw (trial_pending d i L place w v h e f) (pending-fits d L i p l)
-
--- an item's own bits are as many as the number that writes them has
-pub own_length : (d : Description) (i : Item) (w v : ℕ) → bits_of w v ≡ own_bits d i → end_of d i ≡ i.place + w
-own_length d i w v e = ap (λ t. i.place + length t) (sym e) ∙ ap (λ n. i.place + n) (length-bits_of w v)
 
 -- from a place up to the item's end the guess has what putting the item appends
 pub pending-part : (d : Description) (i : Item) (L p : ℕ) → p ≤ i.place → end_of d i ≤ L → part (pending d L i) p (end_of d i - p) ≡ appended d p i

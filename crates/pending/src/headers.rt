@@ -6,6 +6,7 @@ ghost use Rattle.pending.specs.Owned.{Answers};
 
 use crate::own::Own;
 use records::records::Class;
+use rules::lookups::id_width;
 
 // As many sizes as so many bytes can write, seven bits in each.
 const ONE_BYTE: u32 = 128;
@@ -63,36 +64,13 @@ fn size_bits(size: u32) -> Own
     joined(byte(128 + size / 2097152), three)
 }
 
-// The width of the id of a declared class, 0 where it is no family.
-fn id_width(declared: Class) -> u16
-    ensures value { result ≡ id_width declared }
-    ensures bound { result ≤ declared.width }
-{
-    if declared.is_base() {
-        declared.width
-    } else {
-        0
-    }
-}
-
-// How far a number is from 0.
-fn magnitude(value: i64) -> u64
-    ensures { result ≡ unsigned_abs value }
-{
-    if value < 0 {
-        -(value + 1) as u64 + 1
-    } else {
-        value as u64
-    }
-}
-
 // The bits of the beginning of an object of a declared class: the id in a family, the size if expandable.
 pub(crate) fn header_bits(declared: Class, greatest: u16, value: i64, size: u32) -> Option<Own>
     requires { declared.width ≤ 16 }
     ensures { Answers (header_bits declared greatest (unsigned_abs value) size) ((unsigned_abs value < 2 ^ id_width declared) × (size < 268435456)) result }
 {
     let width = id_width(declared);
-    let id = magnitude(value);
+    let id = value.unsigned_abs();
     if id >= 1 << width || size >= FOUR_BYTES {
         return None;
     }

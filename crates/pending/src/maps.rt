@@ -6,33 +6,17 @@ ghost use Rattle.rules.specs.Values.{same};
 ghost use Rattle.roundtrip.specs.Own.{lowest_index};
 ghost use Rattle.pending.specs.Owned.{Answers};
 
-use crate::lookups::row_at;
 use crate::own::Own;
 use records::records::{Map, Row};
+use rules::lookups::output;
+use steps::maps::find_row;
 use table::loaded::Loaded;
-
-// A row's output, in two's complement.
-fn output(row: Row) -> i64
-    ensures { result ≡ output row }
-{
-    let number = i64::from(row.high) * 65536 + i64::from(row.low);
-    if number >= 2147483648 {
-        number - 4294967296
-    } else {
-        number
-    }
-}
 
 // Whether one of `number` rows from `first` on has an index.
 fn has_index(tables: &Loaded, first: u16, number: u16, index: u16) -> bool
     ensures { result ≡ is_ok (find_row (description tables.now) first number index) }
 {
-    for i in 0..number as usize {
-        if row_at(tables, first as usize + i).index == index {
-            return true;
-        }
-    }
-    false
+    find_row(&tables.rows, first, number, u64::from(index)).is_ok()
 }
 
 // Whether a row that stands after `number` rows from `first` on gives a value at an index below the lowest so far.
@@ -44,14 +28,15 @@ fn gives_lower(tables: &Loaded, first: u16, number: u16, row: Row, value: i64, l
         && !has_index(tables, first, number, row.index)
 }
 
-// The lowest index of a map that gives a value, or the first number that is no index of it.
+// The lowest index of a map that gives a value, or the first number that is no index of it. A loop, since each row is judged by the lowest so far
+// and by how many rows stand before it.
 fn lowest_index(tables: &Loaded, map: Map, value: i64) -> u32
     requires { map.width ≤ 16 }
     ensures { result ≡ lowest_index map.width (find_row (description tables.now) map.first map.number) value }
 {
     let mut lowest = 1 << map.width;
     for i in 0..map.number {
-        let row = row_at(tables, map.first as usize + i as usize);
+        let row = tables.row(map.first as usize + i as usize);
         if gives_lower(tables, map.first, i, row, value, lowest) {
             lowest = u32::from(row.index);
         }

@@ -3,9 +3,10 @@ ghost use Rattle.roundtrip.specs.Own.{own_bits, Sensible};
 ghost use Rattle.pending.specs.Owned.{Answers, Narrow};
 
 use crate::headers::header_bits;
-use crate::lookups::{class_at, declared_at, greatest_of};
+use crate::lookups::declared_at;
 use crate::values_of::value_bits;
 use rules::items::{Item, Kind};
+use rules::lookups::greatest;
 use table::loaded::Loaded;
 
 // Bits as a number: the `width` lowest bits of `value`.
@@ -23,14 +24,9 @@ pub fn own_bits(tables: &Loaded, item: Item) -> Option<Own>
     match item.kind {
         Kind::Value => value_bits(tables, item.line, item.value, item.length),
         Kind::Open => {
-            let declared = declared_at(tables, item.line);
-            let class = class_at(tables, declared);
-            header_bits(
-                class,
-                greatest_of(tables, declared),
-                item.value,
-                item.length,
-            )
+            let declared = declared_at(tables, item.line) as usize;
+            let class = tables.class(declared);
+            header_bits(class, greatest(tables, declared), item.value, item.length)
         }
         Kind::Close => Some(Own { width: 0, value: 0 }),
     }

@@ -16,16 +16,15 @@ pub fn store_bits<S: Source>(buffer: &mut [u8], source: &S, from: u32, to: u32) 
     if from > to || to > source.length() || (to as usize).div_ceil(8) > buffer.len() {
         return false;
     }
-    let mut at = from;
-    while at < to {
-        let n = (WIDEST - at % 8).min(to - at);
+    for start in (from - from % 8..to).step_by(WIDEST as usize) {
+        let at = start.max(from);
+        let n = to.min(start + WIDEST) - at;
         let Ok(piece) = source.get(at, n) else {
             return false;
         };
         if put_bits(buffer, at, n, piece).is_err() {
             return false;
         }
-        at += n;
     }
     true
 }

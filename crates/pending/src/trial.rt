@@ -3,8 +3,9 @@ ghost use Rattle.bits.specs.Bits.{limited, limited_short};
 ghost use Rattle.pending.specs.Trial.{trial_bits};
 
 use crate::own::Own;
+use bits::place::check_place;
 use bits::refusal::Refusal;
-use bits::source::{LONGEST, Source, WIDEST};
+use bits::source::{LONGEST, Source};
 
 // A source of `length` bits that are all 0 but for an item's own bits, at a place.
 #[derive(Clone, Copy)]
@@ -24,13 +25,7 @@ impl Source for Trial {
     }
 
     fn get(&self, p: u32, n: u32) -> Result<u64, Refusal> {
-        if n > WIDEST {
-            return Err(Refusal::TooWide);
-        }
-        let length = self.length();
-        if n > length || p > length - n {
-            return Err(Refusal::PastEnd);
-        }
+        check_place(u64::from(self.length()), p, n)?;
         let end = u64::from(self.place) + u64::from(self.own.width);
         let own = lowest(self.own.value, self.own.width);
         Ok(lowest(shifted(own, end, u64::from(p + n)), n))
@@ -41,14 +36,14 @@ impl Source for Trial {
 fn lowest(value: u64, n: u32) -> u64
     ensures { result ≡ value % 2 ^ n }
 {
-    if n >= 64 {
-        return value;
+    match 1u64.checked_shl(n) {
+        Some(above) => value & (above - 1),
+        None => value,
     }
-    value & ((1 << n) - 1)
 }
 
 // The lowest bits of a number that ends at place `end`, up to place q: bits past it are shifted out, and bits that it has
-// not are 0.
+// not are 0. The tests stand here since `checked_shl` takes no 64-bit amount.
 fn shifted(value: u64, end: u64, q: u64) -> u64
     ensures { result ≡ value * 2 ^ (q - end) / 2 ^ (end - q) % 2 ^ 64 }
 {

@@ -5,7 +5,7 @@ ghost use Rattle.table.specs.Description.{description, line_at};
 ghost use Rattle.roundtrip.specs.Own.{complement, value_bits, SensibleValue};
 ghost use Rattle.pending.specs.Owned.{Answers, Narrow};
 
-use crate::lookups::{map_at, statement_at};
+use crate::lookups::statement_at;
 use crate::maps::map_bits;
 use crate::own::Own;
 use records::statements::Statement;
@@ -46,8 +46,8 @@ pub(crate) fn value_bits(tables: &Loaded, line: u16, value: i64, length: u32) ->
     ensures { Answers (value_bits (description tables.now) (statement (line_at (description tables.now) line)) value length) (SensibleValue (description tables.now) (statement (line_at (description tables.now) line)) value length) result }
 {
     match statement_at(tables, line) {
-        Statement::Read { .. } => read_bits(value, length),
-        Statement::MapRead { map, .. } => map_bits(tables, map_at(tables, map), value),
+        Statement::Read(_) => read_bits(value, length),
+        Statement::MapRead { map, .. } => map_bits(tables, tables.map(map as usize), value),
         _ => None,
     }
 }

@@ -27,10 +27,10 @@ abbrev pub read_wrong : (ahead count : ℕ) → Bool
 read_wrong ahead count = not (ahead == 0) && not (count == 0)
 
 abbrev pub statement_wrong : Description → Statement → Bool
-statement_wrong d (Read signed width name count alignment ahead lowest highest) = read_wrong ahead count
+statement_wrong d (Read fields) = read_wrong fields.ahead fields.count
 statement_wrong d (Assign name node) = false
 statement_wrong d (MapRead map name) = false
-statement_wrong d (Use class count least most carried receiving) = use_wrong d class count least most
+statement_wrong d (Use fields) = use_wrong d fields.class fields.count fields.least fields.most
 statement_wrong d (If node first second) = false
 statement_wrong d (While node lines rounds) = false
 statement_wrong d Unknown = false

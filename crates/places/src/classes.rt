@@ -1,9 +1,9 @@
 ghost use Rattle.std.specs.Prelude.{◌≡◌};
 ghost use Rattle.table.specs.Description.{description};
-ghost use Rattle.places.specs.Classes.{fits, ids_fit, plain_wrong, base_wrong, member_wrong, class_wrong, misplaced, later, names_as_later, has_ids, ids_meet, overlaps, class_place};
+ghost use Rattle.places.specs.Classes.{fits, ids_fit, plain_wrong, base_wrong, member_wrong, class_wrong, misplaced, names_as_later, has_ids, ids_meet, overlaps, class_place};
 
-use passes::families::{class_at, family, in_family};
-use passes::first::{Test, some};
+use passes::families::{family, in_family};
+use passes::first::some;
 use records::records::Class;
 use table::loaded::Loaded;
 
@@ -11,11 +11,7 @@ use table::loaded::Loaded;
 pub(crate) fn fits(v: u16, width: u16) -> bool
     ensures { result ≡ fits v width }
 {
-    if width >= 16 {
-        return true;
-    }
-    let limit: u32 = 1 << width;
-    u32::from(v) < limit
+    width >= 16 || u32::from(v) < 1 << width
 }
 
 // Whether first to last id are numbers of so many bits.
@@ -63,37 +59,23 @@ fn class_wrong(c: Class) -> bool
 fn misplaced(loaded: &Loaded, m: usize) -> bool
     ensures { result ≡ misplaced (description loaded.now) m }
 {
-    let class = class_at(loaded, m);
-    let base = class_at(loaded, class.base as usize);
+    let class = loaded.class(m);
+    let base = loaded.class(class.base as usize);
     class.is_member() && !(base.is_base() && ids_fit(class, base.width))
 }
 
-// The later of two records.
-fn later(m: usize, n: usize) -> usize
-    ensures { result ≡ later m n }
+// Whether class n is the later of m, a misplaced member, and its base.
+fn names_as_later(loaded: &Loaded, n: usize, m: usize) -> bool
+    ensures { result ≡ names_as_later (description loaded.now) n m }
 {
-    if m <= n { n } else { m }
-}
-
-// Whether a class is the later of a misplaced member and its base.
-#[derive(Clone, Copy)]
-pub struct NamesAsLater {
-    pub class: usize,
-}
-
-impl Test for NamesAsLater {
-    ghost passes = { λ t d m. names_as_later d t.class m };
-
-    fn holds(&self, loaded: &Loaded, n: usize) -> bool {
-        misplaced(loaded, n) && later(n, class_at(loaded, n).base as usize) == self.class
-    }
+    misplaced(loaded, m) && m.max(loaded.class(m).base as usize) == n
 }
 
 // Whether a class of a family has ids of its own.
 fn has_ids(loaded: &Loaded, n: usize) -> bool
     ensures { result ≡ has_ids (description loaded.now) n }
 {
-    in_family(loaded, n) && class_at(loaded, n).abstracted == 0
+    in_family(loaded, n) && loaded.class(n).abstracted == 0
 }
 
 // Whether two classes have an id in common.
@@ -103,34 +85,23 @@ fn ids_meet(x: Class, y: Class) -> bool
     x.from <= x.to && y.from <= y.to && x.from <= y.to && y.from <= x.to
 }
 
-// Whether an earlier class of the same family has an id in common with a class.
-#[derive(Clone, Copy)]
-pub struct Overlaps {
-    pub class: usize,
+// Whether m is an earlier class of class n's family that has an id in common with it.
+fn overlaps(loaded: &Loaded, n: usize, m: usize) -> bool
+    ensures { result ≡ overlaps (description loaded.now) n m }
+{
+    m < n
+        && has_ids(loaded, m)
+        && has_ids(loaded, n)
+        && family(loaded, m) == family(loaded, n)
+        && ids_meet(loaded.class(m), loaded.class(n))
 }
 
-impl Test for Overlaps {
-    ghost passes = { λ t d m. overlaps d t.class m };
-
-    fn holds(&self, loaded: &Loaded, n: usize) -> bool {
-        n < self.class
-            && has_ids(loaded, n)
-            && has_ids(loaded, self.class)
-            && family(loaded, n) == family(loaded, self.class)
-            && ids_meet(class_at(loaded, n), class_at(loaded, self.class))
-    }
-}
-
-// Whether something of a class, or of a member and its base, is where it does not belong.
-#[derive(Clone, Copy)]
-pub struct ClassPlace;
-
-impl Test for ClassPlace {
-    ghost passes = { λ _ d n. class_place d n };
-
-    fn holds(&self, loaded: &Loaded, n: usize) -> bool {
-        class_wrong(class_at(loaded, n))
-            || some(&NamesAsLater { class: n }, loaded, loaded.classes.len())
-            || some(&Overlaps { class: n }, loaded, loaded.classes.len())
-    }
+// Whether something of class n, or of a member and its base, is where it does not belong.
+pub(crate) fn class_place(loaded: &Loaded, n: usize) -> bool
+    ensures { result ≡ class_place (description loaded.now) n }
+{
+    let count = loaded.classes.len();
+    class_wrong(loaded.class(n))
+        || some(count, |m| names_as_later(loaded, n, m))
+        || some(count, |m| overlaps(loaded, n, m))
 }

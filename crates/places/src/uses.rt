@@ -2,54 +2,48 @@ ghost use Rattle.std.specs.Prelude.{◌≡◌};
 ghost use Rattle.table.specs.Description.{description};
 ghost use Rattle.places.specs.Uses.{top_place, extension_place, uncounted_wrong, use_wrong, read_wrong, statement_wrong, line_place};
 
-use blocks::stretches::extension_at;
-use passes::families::{class_at, expandable};
-use passes::first::Test;
-use records::statements::Statement;
+use passes::families::expandable;
+use records::statements::{ReadLine, Statement, UseLine};
 use table::loaded::Loaded;
 
 // Whether the top class is a member.
 pub(crate) fn top_wrong(loaded: &Loaded) -> bool
     ensures { result ≡ top_place (description loaded.now) }
 {
-    class_at(loaded, loaded.top as usize).is_member()
+    loaded.class(loaded.top as usize).is_member()
 }
 
-// Whether an extension is of a base, or of what is not expandable.
-#[derive(Clone, Copy)]
-pub struct ExtensionPlace;
-
-impl Test for ExtensionPlace {
-    ghost passes = { λ _ d n. extension_place d n };
-
-    fn holds(&self, loaded: &Loaded, n: usize) -> bool {
-        let class = extension_at(loaded, n).class as usize;
-        class_at(loaded, class).is_base() || !expandable(loaded, class)
-    }
+// Whether extension n is of a base, or of what is not expandable.
+pub(crate) fn extension_place(loaded: &Loaded, n: usize) -> bool
+    ensures { result ≡ extension_place (description loaded.now) n }
+{
+    let class = loaded.extension(n).class as usize;
+    loaded.class(class).is_base() || !expandable(loaded, class)
 }
 
 // Whether a use without a count is not of an expandable family, or not from least to most elements.
-fn uncounted_wrong(loaded: &Loaded, class: u16, least: u16, most: u16) -> bool
-    ensures { result ≡ uncounted_wrong (description loaded.now) class least most }
+fn uncounted_wrong(loaded: &Loaded, line: UseLine) -> bool
+    ensures { result ≡ uncounted_wrong (description loaded.now) line.class line.least line.most }
 {
-    !(class_at(loaded, class as usize).is_base() && expandable(loaded, class as usize))
-        || most < least
-        || most == 0
+    let class = line.class as usize;
+    !(loaded.class(class).is_base() && expandable(loaded, class))
+        || line.most < line.least
+        || line.most == 0
 }
 
 // Whether a use is of a member, or without a count where it needs one.
-fn use_wrong(loaded: &Loaded, class: u16, count: u16, least: u16, most: u16) -> bool
-    ensures { result ≡ use_wrong (description loaded.now) class count least most }
+fn use_wrong(loaded: &Loaded, line: UseLine) -> bool
+    ensures { result ≡ use_wrong (description loaded.now) line.class line.count line.least line.most }
 {
-    class_at(loaded, class as usize).is_member()
-        || count == 0 && uncounted_wrong(loaded, class, least, most)
+    loaded.class(line.class as usize).is_member()
+        || line.count == 0 && uncounted_wrong(loaded, line)
 }
 
 // Whether a read looks ahead with a count.
-fn read_wrong(ahead: u16, count: u16) -> bool
-    ensures { result ≡ read_wrong ahead count }
+fn read_wrong(line: ReadLine) -> bool
+    ensures { result ≡ read_wrong line.ahead line.count }
 {
-    ahead != 0 && count != 0
+    line.ahead != 0 && line.count != 0
 }
 
 // Whether a read or a use is where it does not belong.
@@ -57,26 +51,15 @@ fn statement_wrong(loaded: &Loaded, s: Statement) -> bool
     ensures { result ≡ statement_wrong (description loaded.now) s }
 {
     match s {
-        Statement::Read { ahead, count, .. } => read_wrong(ahead, count),
-        Statement::Use {
-            class,
-            count,
-            least,
-            most,
-            ..
-        } => use_wrong(loaded, class, count, least, most),
+        Statement::Read(line) => read_wrong(line),
+        Statement::Use(line) => use_wrong(loaded, line),
         _ => false,
     }
 }
 
-// Whether a line is where it does not belong.
-#[derive(Clone, Copy)]
-pub struct LinePlace;
-
-impl Test for LinePlace {
-    ghost passes = { λ _ d n. line_place d n };
-
-    fn holds(&self, loaded: &Loaded, n: usize) -> bool {
-        statement_wrong(loaded, loaded.statement(n))
-    }
+// Whether line n is where it does not belong.
+pub(crate) fn line_place(loaded: &Loaded, n: usize) -> bool
+    ensures { result ≡ line_place (description loaded.now) n }
+{
+    statement_wrong(loaded, loaded.statement(n))
 }

@@ -1,10 +1,17 @@
 -- The end of a source.
-use Rattle.std.proofs.Common.{◌≡◌, ℕ, ◌-◌, ◌<◌, ◌≤◌, Bool, true, ◌&&◌, eqb, ltb, List, length, drop, sym, ap, ◌∙◌, arith, length-drop}
+use Rattle.std.proofs.Common.{◌≡◌, ℕ, ◌+◌, ◌-◌, ◌<◌, ◌≤◌, Bool, true, false, Ok, Err, Result, ◌&&◌, eqb, ltb, List, length, drop, sym, ap, ◌∙◌, arith, length-drop}
 use Rattle.std.proofs.lemmas.Bool.Decides.{nat_tests}
+use Rattle.std.specs.Result.{result_unwrap_or}
 use Rattle.std.proofs.lemmas.List.{drop_all, take_all}
 use Rattle.bits.specs.Bits.{number, part}
-use Rattle.bits.specs.Zero.{all_zero}
+use Rattle.bits.specs.declared.refusal.Refusal.{Refusal}
+use Rattle.bits.specs.Zero.{all_zero, zero_answer}
 use Rattle.bits.proofs.Zeros.{zero_number}
+
+-- the test for zero bits answers where the bits are there
+pub zero_told : (bits : List Bool) (p n : ℕ) (r : Result Bool Refusal) → r ≡ zero_answer bits p n → p + n ≤ length bits → all_zero (part bits p n) ≡ result_unwrap_or r false
+zero_told bits p n (Ok b) e h = grind (arith, nat_tests)
+zero_told bits p n (Err f) e h = absurd (grind (arith, nat_tests))
 
 module _ (bits : List Bool) (p : ℕ) where
   pub past_end : length bits ≤ p → true ≡ (ltb (length bits - p) 8 && eqb (number (drop p bits)) 0)

@@ -6,7 +6,7 @@ use Rattle.rules.specs.declared.faults.Failure.{Failure}
 use Rattle.rules.specs.declared.faults.ReadingFault.{ReadingFault}
 use Rattle.rules.specs.declared.faults.ReadingCause.TheVariants.{Unchecked, UnknownId}
 use Rattle.rules.specs.declared.items.Item.{Item}
-use Rattle.rules.specs.declared.lines.UseLine.{UseLine}
+use Rattle.records.specs.declared.statements.UseLine.{UseLine}
 use Rattle.rules.specs.declared.steps.Header.{Header}
 use Rattle.rules.specs.declared.steps.Window.{Window}
 use Rattle.rules.specs.Trace.{Run, out, pass, stop, done, bind, bind_assoc}

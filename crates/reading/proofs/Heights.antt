@@ -11,13 +11,13 @@ use Rattle.records.specs.declared.records.Line.{Line}
 use Rattle.records.specs.declared.records.Map.{Map}
 use Rattle.records.specs.declared.statements.Statement.{Statement}
 use Rattle.records.specs.declared.statements.Statement.TheVariants.{Read, Assign, MapRead, Use, If, While, Unknown}
-use Rattle.records.specs.Statements.{statement}
+use Rattle.records.specs.Statements.{statement, written}
 use Rattle.fields.specs.Lines.{statement_fine}
 use Rattle.fields.specs.Tables.{class_fine, map_fine, base_fine, abstract_fine}
 use Rattle.fields.specs.Values.{one_to_sixteen}
 use Rattle.table.specs.Description.{Description, entry, class_at, extension_at, map_at, line_at, statement_at, counts_of, no_class, no_extension, no_map, no_line}
 use Rattle.table.specs.Limits.{within_limits}
-use Rattle.rules.specs.Code.{coded, code, written}
+use Rattle.rules.specs.Code.{coded, code}
 use Rattle.blocks.specs.Nesting.{has_blocks, in_first, in_second, taken, block_sound, line_sound}
 use Rattle.blocks.proofs.Steps.{sound_step}
 use Rattle.checked.specs.Check.{first_fault}
@@ -55,11 +55,11 @@ module _ (d : Description) where
       → (has_blocks s ≡ true → (e < 8) × (high (i + 1) (in_first s) ≤ most (e + 1)) × (high (i + 1 + in_first s) (in_second s) ≤ most (e + 1)))
       → height (coded s i k (code d.lines)) ≤ most e
   unfolding coded height
-  line_high (Read signed width name count alignment ahead lowest highest) i k e t r b =
+  line_high (Read fields) i k e t r b =
       let h = at_place (most e) (i + 1) (suc i) (suc k - 1) k (omega arith) (omega arith) r in omega arith
   line_high (Assign name node) i k e t r b = at_place (most e) (i + 1) (suc i) (suc k - 1) k (omega arith) (omega arith) r
   line_high (MapRead map name) i k e t r b = at_place (most e) (i + 1) (suc i) (suc k - 1) k (omega arith) (omega arith) r
-  line_high (Use class count least most carried receiving) i k e t r b =
+  line_high (Use fields) i k e t r b =
       let h = at_place (2 * (8 - e) + 1) (i + 1) (suc i) (suc k - 1) k (omega arith) (omega arith) r in omega arith
   line_high (If node first second) i k e t r b =
       let q = b refl in
@@ -131,10 +131,10 @@ module _ (d : Description) where
 
 -- a name that a fine line writes is there
 name_written : (counts : Counts) (s : Statement) → statement_fine counts s ≡ true → written s ≤ counts.names
-name_written counts (Read signed width name count alignment ahead lowest highest) e = grind (arith, nat_tests)
+name_written counts (Read fields) e = grind (arith, nat_tests)
 name_written counts (Assign name node) e = grind (arith, nat_tests)
 name_written counts (MapRead map name) e = grind (arith, nat_tests)
-name_written counts (Use class count least most carried receiving) e = grind (arith, nat_tests)
+name_written counts (Use fields) e = grind (arith, nat_tests)
 name_written counts (If node first second) e = omega arith
 name_written counts (While node lines rounds) e = omega arith
 name_written counts Unknown e = omega arith

@@ -3,7 +3,6 @@ mod Endings
 mod Entering
 mod Stepping
 mod Turns
-mod Props
 mod Nexts
 mod Filling
 mod Heights

@@ -1,9 +1,10 @@
 -- The first member of a family, found one after the other.
-use Rattle.std.proofs.Common.{◌≡◌, ℕ, zero, suc, ◌+◌, ◌<◌, ◌≤◌, true, false, cond, ◌&&◌, eqb, List, length, get_or, drop, sym, refl, ap, ◌∙◌, add-one, arith, drop-cons}
-use Rattle.std.proofs.lemmas.List.{drop_all}
+use Rattle.std.proofs.Common.{◌≡◌, ℕ, zero, suc, ◌+◌, Bool, true, false, cond, ◌&&◌, Some, None, Option, eqb, List, [], ◌∷◌, position, sym, refl, ap, ◌∙◌, arith}
+use Rattle.std.specs.List.{position_from}
+use Rattle.std.proofs.lemmas.Iterator.Adapters.{position_from-zero}
 use Rattle.records.specs.declared.records.Class.{Class}
 use Rattle.records.specs.Classes.{is_base}
-use Rattle.table.specs.Description.{Description, class_at, no_class}
+use Rattle.table.specs.Description.{Description, class_at}
 use Rattle.rules.specs.Lookups.{has_id, object_class, member_with, one_later, first_member}
 
 -- the number of a record among those after i others; 0 stays none
@@ -19,26 +20,23 @@ pub later_none : (n : ℕ) → n ≡ later 0 n
 later_none zero = refl
 later_none (suc n) = omega arith
 
-module _ (xs : List Class) (base id i : ℕ) (h : i < length xs) where
-  here : first_member (drop i xs) base id ≡ cond (member_with base id (get_or xs i no_class)) 1 (one_later (first_member (drop (suc i) xs) base id))
-  unfolding first_member
-  here = ap (λ (ys : List Class). first_member ys base id) (drop-cons xs i no_class h)
+-- the number of an index that was found, 0 where none was
+abbrev pub number_of : Option ℕ → ℕ
+number_of None = 0
+number_of (Some i) = i + 1
 
-  pub passed : member_with base id (get_or xs i no_class) ≡ false
-      → later i (first_member (drop i xs) base id) ≡ later (i + 1) (first_member (drop (i + 1) xs) base id)
-  passed e =
-      ap (later i) (here ∙ ap (λ b. cond b 1 (one_later (first_member (drop (suc i) xs) base id))) e)
-      ∙ later_more i (first_member (drop (suc i) xs) base id)
-      ∙ ap (λ k. later (i + 1) (first_member (drop k xs) base id)) (sym (add-one i))
-
-  pub found : member_with base id (get_or xs i no_class) ≡ true → i + 1 ≡ later i (first_member (drop i xs) base id)
-  found e =
-      let q : i + 1 ≡ later i 1 = omega arith in
-      q ∙ sym (ap (later i) (here ∙ ap (λ b. cond b 1 (one_later (first_member (drop (suc i) xs) base id))) e))
-
-pub none_found : (xs : List Class) (base id i : ℕ) → length xs ≤ i → 0 ≡ later i (first_member (drop i xs) base id)
+from_index : (xs : List Class) (base id i : ℕ) → number_of (position_from (member_with base id) i xs) ≡ later i (first_member xs base id)
 unfolding first_member
-none_found xs base id i h = sym (ap (λ (ys : List Class). later i (first_member ys base id)) (drop_all i xs h))
+from_index [] base id i = refl
+from_index (c ∷ cs) base id i = go (member_with base id c) (from_index cs base id (i + 1))
+  where
+    go : (b : Bool) → number_of (position_from (member_with base id) (i + 1) cs) ≡ later (i + 1) (first_member cs base id)
+        → number_of (cond b (Some i) (position_from (member_with base id) (i + 1) cs)) ≡ later i (cond b 1 (one_later (first_member cs base id)))
+    go true e = omega arith
+    go false e = e ∙ sym (later_more i (first_member cs base id))
+
+pub member_number : (xs : List Class) (base id : ℕ) → number_of (position (member_with base id) xs) ≡ first_member xs base id
+member_number xs base id = ap number_of (position_from-zero (member_with base id) xs) ∙ from_index xs base id 0 ∙ sym (later_none (first_member xs base id))
 
 module _ (d : Description) (declared id : ℕ) (c : Class) (is : c ≡ class_at d declared) where
   pub class_plain : is_base c ≡ false → declared ≡ object_class d declared id

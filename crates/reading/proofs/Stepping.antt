@@ -1,9 +1,11 @@
 -- The open objects, through what is done to them.
-use Rattle.std.proofs.Common.{◌≡◌, ℕ, zero, suc, ◌-◌, ◌<◌, ◌≤◌, min, Bool, true, false, cond, not, ◌&&◌, ◌||◌, eqb, ltb, ◌≢◌, List, [], ◌∷◌, length, get_or, drop, set, sym, refl, ap, ◌∙◌, subst, ap₂, arith, get_or-set_same}
+use Rattle.std.proofs.Common.{Some, None, Option, Ok, Err, Result, ◌≡◌, ℕ, zero, suc, ◌-◌, ◌<◌, ◌≤◌, min, Bool, true, false, cond, not, ◌&&◌, ◌||◌, eqb, ltb, ◌≢◌, List, [], ◌∷◌, length, get_or, drop, set, sym, refl, ap, ◌∙◌, subst, ap₂, arith, get_or-set_same}
 use Rattle.std.proofs.lemmas.Bool.Decides.{nat_tests}
 use Rattle.bits.specs.Bits.{number}
 use Rattle.table.specs.Description.{Description}
 use Rattle.rules.specs.declared.faults.ReadingCause.TheVariants.{BitsLeft}
+use Rattle.rules.specs.declared.faults.ReadingFault.{ReadingFault}
+use Rattle.rules.specs.declared.items.Item.{Item}
 use Rattle.rules.specs.Trace.{Run, done, stop}
 use Rattle.rules.specs.Checks.{attempt, ensure, fault}
 use Rattle.rules.specs.Steps.{at_end}
@@ -18,9 +20,7 @@ use Rattle.objects.proofs.Stacks.{tops_set, stack_pop, tops_length}
 use Rattle.reading.specs.declared.open_object.OpenObject.{OpenObject}
 use Rattle.reading.specs.declared.walk.Walk.{Walk}
 use Rattle.reading.specs.Pushes.{Pushed, around}
-use Rattle.reading.specs.Walks.{no_object, objects_of, rest, rest_from, walk_ahead, AllFit, Sound, Turned, beginning, received}
-use Rattle.reading.specs.declared.walk.Turn.{Turn}
-use Rattle.reading.specs.declared.walk.Turn.TheVariants.{Quiet, Give, Refuse, End}
+use Rattle.reading.specs.Walks.{no_object, objects_of, rest, rest_from, walk_ahead, AllFit, Sound, Answered, beginning, received}
 use Rattle.reading.proofs.Entering.{one_receives}
 
 pub known_class : (c g : ℕ) → c ≢ 0 → (not (eqb c 0) || not (eqb g 0)) ≡ true
@@ -119,11 +119,10 @@ pub ahead_of : (d : Description) (bits : List Bool) (v : Walk) (os : List OpenOb
 ahead_of d bits v os q s e p = λ i. cond (s i) (rest d bits (e i) (p i)) (reading d bits)
 
 -- the same step from what lies ahead in other words
-pub turned_from : (d : Description) (bits : List Bool) {from to : Run (Unit {0})} (r : Turn) (w : Walk) → from ≡ to → Turned d bits to r w → Turned d bits from r w
-turned_from d bits Quiet w e t = record { same = e ∙ t.same; sound = t.sound }
-turned_from d bits (Give i) w e t = record { same = e ∙ t.same; sound = t.sound }
-turned_from d bits (Refuse f) w e t = record { same = e ∙ t.same; sound = t.sound }
-turned_from d bits End w e t = record { same = e ∙ t.same; still = t.still; sound = t.sound }
+pub answered_from : (d : Description) (bits : List Bool) {from to : Run (Unit {0})} (r : Result (Option Item) ReadingFault) (w : Walk) → from ≡ to → Answered d bits to r w → Answered d bits from r w
+answered_from d bits (Ok (Some i)) w e t = record { same = e ∙ t.same; sound = t.sound }
+answered_from d bits (Ok None) w e t = record { same = e ∙ t.same; still = t.still; sound = t.sound }
+answered_from d bits (Err f) w e t = record { same = e ∙ t.same; sound = t.sound }
 
 pub start_run : (d : Description) (bits : List Bool) (os : List OpenObject) (n : ℕ) → os ≡ [] → n ≡ length bits
     → reading d bits ≡ beginning d bits os 0 d.top 0 0 0 (record { end = n; object = false }) 0

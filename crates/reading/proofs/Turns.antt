@@ -3,7 +3,7 @@ use Rattle.std.proofs.Common.{◌≡◌, ℕ, suc, ◌<◌, ◌≤◌, min, Bool
 use Rattle.table.specs.Description.{Description}
 use Rattle.rules.specs.declared.faults.ReadingFault.{ReadingFault}
 use Rattle.rules.specs.declared.items.Item.{Item}
-use Rattle.rules.specs.declared.lines.UseLine.{UseLine}
+use Rattle.records.specs.declared.statements.UseLine.{UseLine}
 use Rattle.rules.specs.declared.steps.Window.{Window}
 use Rattle.rules.specs.Trace.{Run, out, pass}
 use Rattle.rules.specs.Reading.{State, Objects}

@@ -1,5 +1,7 @@
 -- What lies ahead of a reading, by its open objects.
-use Rattle.std.specs.Prelude.{◌≡◌, ℕ, ◌-◌, ◌≤◌, min, Bool, false, cond, List, [], ◌∷◌, length}
+use Rattle.std.specs.Prelude.{◌≡◌, ℕ, ◌-◌, ◌≤◌, min, Bool, false, cond, List, [], ◌∷◌, length, Some, None, Option, Ok, Err, Result}
+use mathlib.Core.HLevel.{Unit-prop, ×_prop, ×₃_prop}
+use native.Mathlib.Bridge.{le_prop}
 use Rattle.table.specs.Description.{Description}
 use Rattle.rules.specs.declared.faults.ReadingFault.{ReadingFault}
 use Rattle.rules.specs.declared.items.Item.{Item}
@@ -13,11 +15,9 @@ use Rattle.values.specs.Names.{named_by}
 use Rattle.objects.specs.declared.inside.About.{About}
 use Rattle.objects.specs.Tops.{tops}
 use Rattle.objects.specs.Frames.{frames}
-use Rattle.objects.specs.Ahead.{Fit, object_of, content_run}
+use Rattle.objects.specs.Ahead.{Fit, fit_prop, object_of, content_run}
 use Rattle.reading.specs.declared.open_object.OpenObject.{OpenObject}
 use Rattle.reading.specs.declared.walk.Walk.{Walk}
-use Rattle.reading.specs.declared.walk.Turn.{Turn}
-use Rattle.reading.specs.declared.walk.Turn.TheVariants.{Quiet, Give, Refuse, End}
 
 -- what stands for an object that is not there
 abbrev pub no_object : OpenObject
@@ -85,6 +85,15 @@ AllFit d (a ∷ os) = Fit d (frames a.inside.frames) × (a.about.receiving ≤ 1
 unfoldable pub Sound : Description → Walk → Type 0
 Sound d w = AllFit d (objects_of w) × (w.place ≤ 2147483647)
 
+all_fit_prop : (d : Description) (os : List OpenObject) → IsProp (AllFit d os)
+unfolding AllFit
+all_fit_prop d [] = Unit-prop
+all_fit_prop d (o ∷ os) = ×₃_prop (fit_prop d (frames o.inside.frames)) le_prop (all_fit_prop d os)
+
+pub sound_prop : (d : Description) (w : Walk) → IsProp (Sound d w)
+unfolding Sound
+sound_prop d w = ×_prop (all_fit_prop d (objects_of w)) le_prop
+
 module _ (d : Description) (bits : List Bool) where
   pub record Quietly (from : Run (Unit {0})) (w : Walk) : Type 0 where
     pub same : from ≡ pass (walk_ahead d bits w)
@@ -103,9 +112,13 @@ module _ (d : Description) (bits : List Bool) where
     pub still : walk_ahead d bits w ≡ done tt
     pub sound : Sound d w
 
-  -- one step from what lies ahead
-  abbrev pub Turned : Run (Unit {0}) → Turn → Walk → Type 0
-  Turned from Quiet w = Quietly from w
-  Turned from (Give i) w = Gives from i w
-  Turned from (Refuse f) w = Refuses from f w
-  Turned from End w = Ends from w
+  -- an answer from what lies ahead
+  abbrev pub Answered : Run (Unit {0}) → Result (Option Item) ReadingFault → Walk → Type 0
+  Answered from (Ok (Some i)) w = Gives from i w
+  Answered from (Ok None) w = Ends from w
+  Answered from (Err f) w = Refuses from f w
+
+  -- one step from it, which may hand out nothing
+  abbrev pub Turned : Run (Unit {0}) → Option (Result (Option Item) ReadingFault) → Walk → Type 0
+  Turned from None w = Quietly from w
+  Turned from (Some a) w = Answered from a w

@@ -15,8 +15,5 @@ pub(crate) fn at_end<S: Source>(source: &S, count: u32, p: u32) -> bool
     if count - p >= 8 {
         return false;
     }
-    match is_zero(source, p, count - p) {
-        Ok(zero) => zero,
-        Err(_) => false,
-    }
+    is_zero(source, p, count - p).unwrap_or(false)
 }

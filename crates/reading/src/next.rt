@@ -7,7 +7,7 @@ ghost use Rattle.reading.specs.Reads.{ahead, item_end, position_of, place_of, Po
 ghost use Rattle.reading.specs.Fills.{Fills};
 
 use crate::state::Reading;
-use crate::walk::{Turn, Walk};
+use crate::walk::{Answer, Walk};
 use bits::source::Source;
 use checked::checked::Checked;
 use rules::faults::ReadingFault;
@@ -25,7 +25,7 @@ fn item_end(item: Item, place: u32) -> u64
     }
 }
 
-// How a table was filled.
+// How a table was filled. Three ways, so no Result.
 #[derive(Clone, Copy)]
 pub enum Filled {
     // there was no more room
@@ -63,7 +63,7 @@ impl<'d, S: Source> Reading<'d, S> {
 
 impl<S: Source> Reading<'_, S> {
     // The next item, or none at the end, or why the source is refused.
-    pub fn next(&mut self) -> Result<Option<Item>, ReadingFault>
+    pub fn next(&mut self) -> Answer
         ensures next { Next (ahead S.bits self.old) result (ahead S.bits self.new) }
         ensures position { Positioned (position_of self.old) result (position_of self.new) (place_of self.new) }
         ensures told { Told (ahead S.bits self.old) result (ahead S.bits self.new) }
@@ -72,17 +72,13 @@ impl<S: Source> Reading<'_, S> {
             return Err(fault);
         }
         loop {
-            match self.walk.step(&self.source, self.tables) {
-                Turn::Quiet => {}
-                Turn::Give(item) => {
-                    self.position = item_end(item, self.walk.place);
-                    return Ok(Some(item));
+            if let Some(answer) = self.walk.step(&self.source, self.tables) {
+                match answer {
+                    Ok(Some(item)) => self.position = item_end(item, self.walk.place),
+                    Ok(None) => {}
+                    Err(fault) => self.fault = Some(fault),
                 }
-                Turn::End => return Ok(None),
-                Turn::Refuse(fault) => {
-                    self.fault = Some(fault);
-                    return Err(fault);
-                }
+                return answer;
             }
         }
     }
@@ -98,19 +94,13 @@ impl<S: Source> Reading<'_, S> {
     pub fn fill(&mut self, table: &mut [Item]) -> (usize, Filled)
         ensures { Fills (ahead S.bits self.old) table.old result.0 result.1 table.new (ahead S.bits self.new) }
     {
-        let mut count = 0;
-        while count < table.len() {
+        for count in 0..table.len() {
             match self.next() {
-                Ok(next) => match next {
-                    Some(item) => {
-                        table[count] = item;
-                        count += 1;
-                    }
-                    None => return (count, Filled::End),
-                },
+                Ok(Some(item)) => table[count] = item,
+                Ok(None) => return (count, Filled::End),
                 Err(fault) => return (count, Filled::Refused(fault)),
             }
         }
-        (count, Filled::Full)
+        (table.len(), Filled::Full)
     }
 }

@@ -1,6 +1,6 @@
 ghost use Rattle.table.specs.Description.{description};
-ghost use Rattle.objects.specs.Ahead.{Readable};
-ghost use Rattle.reading.specs.Walks.{Sound};
+ghost use Rattle.objects.specs.Ahead.{Readable, readable_prop};
+ghost use Rattle.reading.specs.Walks.{Sound, sound_prop};
 
 use crate::walk::Walk;
 use bits::source::Source;
@@ -15,6 +15,6 @@ pub struct Reading<'d, S: Source> {
     pub(crate) walk: Walk,
     pub(crate) fault: Option<ReadingFault>,
     pub(crate) position: u64,
-    ghost readable: { ∥ Readable (description tables.now) ∥₁ },
-    ghost sound: { ∥ Sound (description tables.now) walk ∥₁ },
+    ghost readable: { Readable (description tables.now) } by { readable_prop (description tables.now) },
+    ghost sound: { Sound (description tables.now) walk } by { sound_prop (description tables.now) walk },
 }

@@ -2,7 +2,8 @@ use crate::open_object::OpenObject;
 use rules::faults::ReadingFault;
 use rules::items::Item;
 
-// Where a reading stands: the open objects, the innermost last, and the place.
+// Where a reading stands: the open objects, the innermost last, and the place. No `ArrayVec`, for the same reason as in `Frames`; it would
+// write a blank of 1,552 bytes at each close besides.
 #[derive(Clone, Copy)]
 pub struct Walk {
     pub(crate) objects: [OpenObject; 16],
@@ -12,11 +13,5 @@ pub struct Walk {
     pub(crate) started: bool,
 }
 
-// What one step of a reading comes to.
-#[derive(Clone, Copy)]
-pub enum Turn {
-    Quiet,
-    Give(Item),
-    Refuse(ReadingFault),
-    End,
-}
+// What a reading answers: the next item, or none at the end, or why it is refused.
+pub type Answer = Result<Option<Item>, ReadingFault>;

@@ -6,20 +6,22 @@ ghost use Rattle.rules.specs.Trace.{Run};
 ghost use Rattle.rules.specs.Reading.{open_item, close_item, inner as inner_window, reading};
 ghost use Rattle.rules.specs.Steps.{header as header_at};
 ghost use Rattle.objects.specs.Ahead.{Readable};
-ghost use Rattle.reading.specs.Walks.{objects_of, capped, seen, beginning, rest, walk_ahead, Sound, Turned};
+ghost use Rattle.reading.specs.Walks.{objects_of, capped, seen, beginning, rest, walk_ahead, Sound, Answered, Turned};
 ghost use Rattle.reading.specs.Pushes.{Pushed, Leaving};
 
 use crate::ending::at_end;
-use crate::lookups::{class_at, greatest_of, object_class};
+use crate::lookups::object_class;
 use crate::open_object::OpenObject;
-use crate::walk::{Turn, Walk};
+use crate::walk::{Answer, Walk};
 use bits::source::Source;
 use objects::inside::{About, Inside};
-use objects::moves::{Move, fault_of};
+use objects::moves::Move;
+use objects::scene::Scene;
 use rules::faults::{Failure, ReadingCause};
 use rules::items::{Item, Kind};
+use rules::lookups::greatest;
 use rules::steps::{Header, Window};
-use steps::headers::header;
+use steps::view::View;
 use table::loaded::Loaded;
 
 // As many objects as may be open at once.
@@ -36,20 +38,13 @@ pub(crate) struct Using {
     pub(crate) receiving: u16,
 }
 
-// The smaller of two places.
-fn smaller(a: u32, b: u32) -> u32
-    ensures { result ≡ min a b }
-{
-    if a < b { a } else { b }
-}
-
 // An object's window reaches no further than so many bits.
 fn within(about: About, count: u32) -> About
     ensures { result ≡ seen count about }
 {
     About {
         window: Window {
-            end: smaller(about.window.end, count),
+            end: about.window.end.min(count),
             object: about.window.object,
         },
         ..about
@@ -118,6 +113,8 @@ fn close_item(about: About, place: u32) -> Item
     }
 }
 
+// That the description is readable is a field of `Reading` and of `Scene`; the steps between hand it on as a `requires`, for a wrapper of
+// the tables would be taken off again at each look-up. The source's length is asked once a step, and handed on with its source.
 impl Walk {
     // A reading that has not begun.
     pub(crate) fn new() -> Walk
@@ -168,22 +165,18 @@ impl Walk {
         used: Using,
         greatest: u16,
         header: Header,
-    ) -> Turn
+    ) -> Answer
         requires sound { Sound (description tables.now) self.old }
         requires room { length (objects_of self.old) < 16 }
         requires readable { Readable (description tables.now) }
         requires writes { used.receiving ≤ 128 }
         requires most { greatest ≡ greatest_in (description tables.now) used.class }
         requires short { (header.after + 8 * header.size ≤ window.end) × (window.end ≤ 2147483647) }
-        ensures { (bits : List Bool) → window.end ≤ length bits → Ok header ≡ header_at bits window (class_at (description tables.now) used.class) (greatest_in (description tables.now) used.class) self.old.place → Turned (description tables.now) bits (beginning (description tables.now) bits (objects_of self.old) used.line used.class used.index used.carried used.receiving window self.old.place) result self.new }
+        ensures { (bits : List Bool) → window.end ≤ length bits → Ok header ≡ header_at bits window (class_at (description tables.now) used.class) (greatest_in (description tables.now) used.class) self.old.place → Answered (description tables.now) bits (beginning (description tables.now) bits (objects_of self.old) used.line used.class used.index used.carried used.receiving window self.old.place) result self.new }
     {
         let class = object_class(tables, used.class, header.id);
         if class == 0 && greatest == 0 {
-            let failure = Failure {
-                cause: ReadingCause::UnknownId,
-                node: 0,
-            };
-            return Turn::Refuse(fault_of(failure, used.line, self.place));
+            return Err(Failure::from(ReadingCause::UnknownId).at(used.line, self.place));
         }
         let about = About {
             class,
@@ -200,106 +193,93 @@ impl Walk {
             inside: Inside::begun(tables, class),
         };
         self.push(object, header.after);
-        Turn::Give(open_item(class, used, header))
+        Ok(Some(open_item(class, used, header)))
     }
 
     // Begins an object: reads its beginning, and opens it.
-    fn begin<S: Source>(&mut self, source: &S, tables: &Loaded, window: Window, used: Using) -> Turn
+    fn begin<S: Source>(&mut self, view: &View<S>, tables: &Loaded, used: Using) -> Answer
         requires sound { Sound (description tables.now) self.old }
         requires readable { Readable (description tables.now) }
         requires writes { used.receiving ≤ 128 }
-        requires within { window.end ≤ length (S.bits source.now) }
-        requires short { window.end ≤ 2147483647 }
-        ensures { Turned (description tables.now) (S.bits source.now) (beginning (description tables.now) (S.bits source.now) (objects_of self.old) used.line used.class used.index used.carried used.receiving window self.old.place) result self.new }
+        ensures { Answered (description tables.now) (S.bits view.now.source.now) (beginning (description tables.now) (S.bits view.now.source.now) (objects_of self.old) used.line used.class used.index used.carried used.receiving view.now.window self.old.place) result self.new }
     {
         if self.depth >= MOST {
-            let failure = Failure {
-                cause: ReadingCause::Unchecked,
-                node: 0,
-            };
-            return Turn::Refuse(fault_of(failure, used.line, self.place));
+            return Err(Failure::from(ReadingCause::Unchecked).at(used.line, self.place));
         }
-        let greatest = greatest_of(tables, used.class);
-        match header(
-            source,
-            window,
-            class_at(tables, used.class),
-            greatest,
-            self.place,
-        ) {
-            Ok(header) => self.enter(tables, window, used, greatest, header),
-            Err(failure) => Turn::Refuse(fault_of(failure, used.line, self.place)),
+        let greatest = greatest(tables, used.class as usize);
+        match view.header(tables.class(used.class as usize), greatest, self.place) {
+            Ok(header) => self.enter(tables, view.window, used, greatest, header),
+            Err(failure) => Err(failure.at(used.line, self.place)),
         }
     }
 
     // Ends the reading, once the top object is closed.
-    fn finish<S: Source>(&self, source: &S, count: u32) -> Turn
+    fn finish<S: Source>(&self, source: &S, count: u32) -> Answer
         requires begun { self.now.started ≡ true }
         requires none { objects_of self.now ≡ [] }
         requires count { count ≡ length (S.bits source.now) }
-        ensures { (d : Description) → Sound d self.now → Turned d (S.bits source.now) (walk_ahead d (S.bits source.now) self.now) result self.now }
+        ensures { (d : Description) → Sound d self.now → Answered d (S.bits source.now) (walk_ahead d (S.bits source.now) self.now) result self.now }
     {
         if at_end(source, count, self.place) {
-            return Turn::End;
+            return Ok(None);
         }
-        let failure = Failure {
-            cause: ReadingCause::BitsLeft,
-            node: 0,
-        };
-        Turn::Refuse(fault_of(failure, 0, self.place))
+        Err(Failure::from(ReadingCause::BitsLeft).at(0, self.place))
     }
 
     // Closes the innermost object, which has nothing left to do.
-    fn leave(&mut self, i: usize, about: About) -> Turn
+    fn leave(&mut self, i: usize, about: About) -> Answer
         requires innermost { min self.old.depth 16 ≡ suc i }
         requires started { self.old.started ≡ true }
         requires receives { about.receiving ≤ 128 }
-        ensures { (d : Description) (bits : List Bool) (from : Run (Unit {0})) → Leaving d bits i about self.old from → Turned d bits from result self.new }
+        ensures { (d : Description) (bits : List Bool) (from : Run (Unit {0})) → Leaving d bits i about self.old from → Answered d bits from result self.new }
     {
         let value = self.objects[i].inside.name(about.carried);
         let place = place_after(about, self.place);
         self.place = place;
         self.depth = i;
         if i == 0 {
-            return Turn::Give(close_item(about, place));
+            return Ok(Some(close_item(about, place)));
         }
         self.objects[i - 1].inside.receive(about.receiving, value);
-        Turn::Give(close_item(about, place))
+        Ok(Some(close_item(about, place)))
     }
 
-    // One step of the reading.
-    pub(crate) fn step<S: Source>(&mut self, source: &S, tables: &Loaded) -> Turn
+    // One step of the reading; nothing is handed out where it answers none.
+    pub(crate) fn step<S: Source>(&mut self, source: &S, tables: &Loaded) -> Option<Answer>
         requires sound { Sound (description tables.now) self.old }
         requires readable { Readable (description tables.now) }
         ensures { Turned (description tables.now) (S.bits source.now) (walk_ahead (description tables.now) (S.bits source.now) self.old) result self.new }
     {
         let count = source.length();
         if !self.started {
-            return self.start(source, tables, count);
+            return Some(self.start(source, tables, count));
         }
         if self.depth == 0 {
-            return self.finish(source, count);
+            return Some(self.finish(source, count));
         }
         let i = innermost(self.depth);
-        let about = within(self.objects[i].about, count);
-        match self.objects[i]
-            .inside
-            .step(source, tables, about, self.place)
-        {
-            Move::Quiet { place } => {
+        let scene = Scene {
+            source,
+            tables,
+            about: within(self.objects[i].about, count),
+            place: self.place,
+        };
+        match self.objects[i].inside.step(&scene) {
+            Ok(Move::Quiet { place }) => {
                 self.place = place;
-                Turn::Quiet
+                None
             }
-            Move::Give { item, place } => {
+            Ok(Move::Give { item, place }) => {
                 self.place = place;
-                Turn::Give(item)
+                Some(Ok(Some(item)))
             }
-            Move::Refuse { fault } => Turn::Refuse(fault),
-            Move::Begin {
-                line,
-                fields,
-                index,
-            } => {
+            Ok(
+                Move::Begin {
+                    line,
+                    fields,
+                    index,
+                },
+            ) => {
                 let used = Using {
                     line,
                     class: fields.class,
@@ -307,23 +287,27 @@ impl Walk {
                     carried: fields.carried,
                     receiving: fields.receiving,
                 };
-                self.begin(source, tables, about.window, used)
+                Some(self.begin(&scene.view(), tables, used))
             }
-            Move::Leave => self.leave(i, about),
+            Ok(Move::Leave) => Some(self.leave(i, within(self.objects[i].about, count))),
+            Err(fault) => Some(Err(fault)),
         }
     }
 
     // Begins the top object.
-    fn start<S: Source>(&mut self, source: &S, tables: &Loaded, count: u32) -> Turn
+    fn start<S: Source>(&mut self, source: &S, tables: &Loaded, count: u32) -> Answer
         requires readable { Readable (description tables.now) }
         requires whole { count ≡ length (S.bits source.now) }
-        ensures { Turned (description tables.now) (S.bits source.now) (reading (description tables.now) (S.bits source.now)) result self.new }
+        ensures { Answered (description tables.now) (S.bits source.now) (reading (description tables.now) (S.bits source.now)) result self.new }
     {
         self.depth = 0;
         self.place = 0;
-        let window = Window {
-            end: count,
-            object: false,
+        let view = View {
+            source,
+            window: Window {
+                end: count,
+                object: false,
+            },
         };
         let used = Using {
             line: 0,
@@ -332,6 +316,6 @@ impl Walk {
             carried: 0,
             receiving: 0,
         };
-        self.begin(source, tables, window, used)
+        self.begin(&view, tables, used)
     }
 }

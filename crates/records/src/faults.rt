@@ -5,27 +5,27 @@ ghost use Rattle.records.specs.Causes.{cause_number, table_number, of_file};
 #[derive(Clone, Copy, PartialEq, Eq, Debug)]
 pub enum Cause {
     // the file does not begin with the mark
-    Mark,
+    Mark = 1,
     // another version, or none
-    Version,
+    Version = 2,
     // a count is missing or out of its range
-    Count,
+    Count = 3,
     // the file is longer or shorter than its tables
-    Length,
+    Length = 4,
     // a field is outside its values, or names a record that is not there
-    Field,
+    Field = 5,
     // a line is not in exactly one stretch, or a block runs past what holds it
-    Stretch,
+    Stretch = 6,
     // blocks or nodes nest too deep
-    Depth,
+    Depth = 7,
     // a used class does not rank below its user
-    Rank,
+    Rank = 8,
     // a name that is not the line's to take
-    Owner,
+    Owner = 9,
     // an id, a width, a size or a use where it does not belong
-    Place,
+    Place = 10,
     // there was no memory for the tables
-    Memory,
+    Memory = 90,
 }
 
 impl Cause {
@@ -33,33 +33,21 @@ impl Cause {
     pub fn number(self) -> u16
         ensures { result ≡ cause_number self }
     {
-        match self {
-            Cause::Mark => 1,
-            Cause::Version => 2,
-            Cause::Count => 3,
-            Cause::Length => 4,
-            Cause::Field => 5,
-            Cause::Stretch => 6,
-            Cause::Depth => 7,
-            Cause::Rank => 8,
-            Cause::Owner => 9,
-            Cause::Place => 10,
-            Cause::Memory => 90,
-        }
+        self as u16
     }
 }
 
 // What a fault speaks of: the file as a whole and its top class, or one of the seven tables.
 #[derive(Clone, Copy, PartialEq, Eq, Debug)]
 pub enum Table {
-    File,
-    Classes,
-    Names,
-    Extensions,
-    Lines,
-    Nodes,
-    Maps,
-    Rows,
+    File = 0,
+    Classes = 1,
+    Names = 2,
+    Extensions = 3,
+    Lines = 4,
+    Nodes = 5,
+    Maps = 6,
+    Rows = 7,
 }
 
 impl Table {
@@ -67,16 +55,7 @@ impl Table {
     pub fn number(self) -> u16
         ensures { result ≡ table_number self }
     {
-        match self {
-            Table::File => 0,
-            Table::Classes => 1,
-            Table::Names => 2,
-            Table::Extensions => 3,
-            Table::Lines => 4,
-            Table::Nodes => 5,
-            Table::Maps => 6,
-            Table::Rows => 7,
-        }
+        self as u16
     }
 }
 

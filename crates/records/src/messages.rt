@@ -1,9 +1,34 @@
-use crate::faults::Cause;
+use crate::counts::Counts;
+use crate::faults::{Cause, Fault};
 use std::fmt;
 
 impl fmt::Display for Cause {
     fn fmt<W: fmt::Write>(&self, f: &mut fmt::Formatter<W>) -> fmt::Result {
         f.write_str(sentence(*self))
+    }
+}
+
+// Seven numbers, in the order of the file.
+impl fmt::Display for Counts {
+    fn fmt<W: fmt::Write>(&self, f: &mut fmt::Formatter<W>) -> fmt::Result {
+        write!(
+            f,
+            "{} {} {} {} {} {} {}",
+            self.classes, self.names, self.extensions, self.lines, self.nodes, self.maps, self.rows
+        )
+    }
+}
+
+// Three numbers: cause, table, record.
+impl fmt::Display for Fault {
+    fn fmt<W: fmt::Write>(&self, f: &mut fmt::Formatter<W>) -> fmt::Result {
+        write!(
+            f,
+            "{} {} {}",
+            self.cause.number(),
+            self.table.number(),
+            self.record
+        )
     }
 }
 

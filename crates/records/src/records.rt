@@ -1,8 +1,9 @@
 // The records of the seven tables, field by field as they stand in the file.
-// A field that names a record holds its number, counted from 1; 0 says none.
+// A field that names a record holds its number, counted from 1; 0 says none. A kind is the file's number and no enum, since one that
+// there is not is loaded too, and refused by the number of its record.
 
 // A class of objects: plain, or the base or a member of a family.
-#[derive(Clone, Copy, PartialEq, Eq)]
+#[derive(Clone, Copy, Default, PartialEq, Eq)]
 pub struct Class {
     // 0 plain, 1 base, 2 member
     pub kind: u16,
@@ -25,14 +26,14 @@ pub struct Class {
 }
 
 // A name of an object's value.
-#[derive(Clone, Copy, PartialEq, Eq)]
+#[derive(Clone, Copy, Default, PartialEq, Eq)]
 pub struct Name {
     // the class whose objects hold the value
     pub owner: u16,
 }
 
 // Further lines of an expandable class.
-#[derive(Clone, Copy, PartialEq, Eq)]
+#[derive(Clone, Copy, Default, PartialEq, Eq)]
 pub struct Extension {
     pub class: u16,
     // the first line and the number of lines
@@ -41,7 +42,7 @@ pub struct Extension {
 }
 
 // A line of a class or extension. What its seven fields mean depends on its kind: `statement` gives them names.
-#[derive(Clone, Copy, PartialEq, Eq)]
+#[derive(Clone, Copy, Default, PartialEq, Eq)]
 pub struct Line {
     pub kind: u16,
     pub a: u16,
@@ -54,7 +55,7 @@ pub struct Line {
 }
 
 // A node of an expression: a constant, a name, the own size, or an operator on the nodes a and b.
-#[derive(Clone, Copy, PartialEq, Eq)]
+#[derive(Clone, Copy, Default, PartialEq, Eq)]
 pub struct Node {
     pub op: u16,
     pub a: u16,
@@ -62,7 +63,7 @@ pub struct Node {
 }
 
 // A map from the numbers of so many bits to outputs.
-#[derive(Clone, Copy, PartialEq, Eq)]
+#[derive(Clone, Copy, Default, PartialEq, Eq)]
 pub struct Map {
     // the width of an index in bits
     pub width: u16,
@@ -72,7 +73,7 @@ pub struct Map {
 }
 
 // A row of a map: an index and its output, in two's complement.
-#[derive(Clone, Copy, PartialEq, Eq)]
+#[derive(Clone, Copy, Default, PartialEq, Eq)]
 pub struct Row {
     pub index: u16,
     // the high and the low half of the output

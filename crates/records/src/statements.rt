@@ -1,130 +1,145 @@
 ghost use Rattle.std.specs.Prelude.{◌≡◌};
-ghost use Rattle.records.specs.Statements.{statement, read, statement_kind};
+ghost use Rattle.records.specs.Statements.{statement, read_line, use_line, statement_kind, written};
 
 use crate::records::Line;
+
+// The fields of a read. A node, a name, a count or a bound of 0 says none.
+#[derive(Clone, Copy, PartialEq, Eq)]
+pub struct ReadLine {
+    pub signed: bool,
+    // the node of the width in bits
+    pub width: u16,
+    // the name that gets the value
+    pub name: u16,
+    // the node of the count
+    pub count: u16,
+    // in bits: 0, 8, 16, 32, 64 or 128
+    pub alignment: u16,
+    // 1 for a look-ahead
+    pub ahead: u16,
+    // the nodes of the lowest and the highest value
+    pub lowest: u16,
+    pub highest: u16,
+}
+
+// The fields of a use of a class. A node, a name or a bound of 0 says none.
+#[derive(Clone, Copy, PartialEq, Eq)]
+pub struct UseLine {
+    pub class: u16,
+    // the node of the count
+    pub count: u16,
+    // without a count: the least and the most objects
+    pub least: u16,
+    pub most: u16,
+    // the used object's name whose value goes to the name `receiving` of the user
+    pub carried: u16,
+    pub receiving: u16,
+}
 
 // A line with its fields by name. Later code goes by this view of a line.
 #[derive(Clone, Copy, PartialEq, Eq)]
 pub enum Statement {
     // reads one value, or `count` of them
-    Read {
-        signed: bool,
-        // the node of the width in bits
-        width: u16,
-        // the name that gets the value
-        name: u16,
-        // the node of the count
-        count: u16,
-        // in bits: 0, 8, 16, 32, 64 or 128
-        alignment: u16,
-        // 1 for a look-ahead
-        ahead: u16,
-        // the nodes of the lowest and the highest value
-        lowest: u16,
-        highest: u16,
-    },
+    Read(ReadLine),
     // gives a name the value of a node
-    Assign {
-        name: u16,
-        node: u16,
-    },
+    Assign { name: u16, node: u16 },
     // reads an index and gives the output of a map's row
-    MapRead {
-        map: u16,
-        name: u16,
-    },
+    MapRead { map: u16, name: u16 },
     // reads objects of a class, `count` of them, or from `least` to `most`
-    Use {
-        class: u16,
-        count: u16,
-        least: u16,
-        most: u16,
-        // the used object's name whose value goes to the name `receiving`
-        carried: u16,
-        receiving: u16,
-    },
+    Use(UseLine),
     // the next `first` lines where the node is true, else the `second` lines after them
-    If {
-        node: u16,
-        first: u16,
-        second: u16,
-    },
+    If { node: u16, first: u16, second: u16 },
     // the next `lines` lines as long as the node is true, at most `rounds` times
-    While {
-        node: u16,
-        lines: u16,
-        rounds: u16,
-    },
-    // a kind that there is not
+    While { node: u16, lines: u16, rounds: u16 },
+    // a kind that there is not; no Option around a statement, since fourteen matches say what they make of such a line, and each would
+    // then match twice
     Unknown,
 }
 
-impl Line {
-    // The line's fields, by the names that they have at its kind.
-    pub fn statement(self) -> Statement
-        ensures { result ≡ statement self }
-    {
-        match self.kind {
-            1 => self.read(false),
-            2 => self.read(true),
+impl From<Line> for Statement {
+    // the line's fields, by the names that they have at its kind
+    ghost from_gives = { λ l s. s ≡ statement l };
+
+    fn from(line: Line) -> Statement {
+        match line.kind {
+            1 => Statement::Read(read_line(false, line)),
+            2 => Statement::Read(read_line(true, line)),
             3 => Statement::Assign {
-                name: self.a,
-                node: self.b,
+                name: line.a,
+                node: line.b,
             },
             4 => Statement::MapRead {
-                map: self.a,
-                name: self.b,
+                map: line.a,
+                name: line.b,
             },
-            5 => Statement::Use {
-                class: self.a,
-                count: self.b,
-                least: self.c,
-                most: self.d,
-                carried: self.e,
-                receiving: self.f,
-            },
+            5 => Statement::Use(use_line(line)),
             6 => Statement::If {
-                node: self.a,
-                first: self.b,
-                second: self.c,
+                node: line.a,
+                first: line.b,
+                second: line.c,
             },
             7 => Statement::While {
-                node: self.a,
-                lines: self.b,
-                rounds: self.c,
+                node: line.a,
+                lines: line.b,
+                rounds: line.c,
             },
             _ => Statement::Unknown,
         }
     }
+}
 
-    // The fields of a read.
-    fn read(self, signed: bool) -> Statement
-        ensures { result ≡ read signed self }
-    {
-        Statement::Read {
-            signed,
-            width: self.a,
-            name: self.b,
-            count: self.c,
-            alignment: self.d,
-            ahead: self.e,
-            lowest: self.f,
-            highest: self.g,
-        }
+// The fields of a read.
+fn read_line(signed: bool, line: Line) -> ReadLine
+    ensures { result ≡ read_line signed line }
+{
+    ReadLine {
+        signed,
+        width: line.a,
+        name: line.b,
+        count: line.c,
+        alignment: line.d,
+        ahead: line.e,
+        lowest: line.f,
+        highest: line.g,
+    }
+}
+
+// The fields of a use.
+fn use_line(line: Line) -> UseLine
+    ensures { result ≡ use_line line }
+{
+    UseLine {
+        class: line.a,
+        count: line.b,
+        least: line.c,
+        most: line.d,
+        carried: line.e,
+        receiving: line.f,
     }
 }
 
 impl Statement {
+    // The name that a line writes, 0 if none. No Option: records say none by 0, and a look-up of 0 is defined.
+    pub fn written(self) -> u16
+        ensures { result ≡ written self }
+    {
+        match self {
+            Statement::Read(line) => line.name,
+            Statement::Assign { name, .. } | Statement::MapRead { name, .. } => name,
+            Statement::Use(line) => line.receiving,
+            Statement::If { .. } | Statement::While { .. } | Statement::Unknown => 0,
+        }
+    }
+
     // The number of the kind, 0 for one that there is not.
     pub fn kind(self) -> u16
         ensures { result ≡ statement_kind self }
     {
         match self {
-            Statement::Read { signed: false, .. } => 1,
-            Statement::Read { signed: true, .. } => 2,
+            Statement::Read(line) => if line.signed { 2 } else { 1 },
             Statement::Assign { .. } => 3,
             Statement::MapRead { .. } => 4,
-            Statement::Use { .. } => 5,
+            Statement::Use(_) => 5,
             Statement::If { .. } => 6,
             Statement::While { .. } => 7,
             Statement::Unknown => 0,

@@ -1,82 +1,31 @@
 -- Single steps: what a step gives over some bits, it gives over any bits that have what was taken and 0 where it skipped.
 use Rattle.rules.specs.declared.faults.ReadingCause.{ReadingCause}
 use Rattle.rules.specs.declared.faults.ReadingCause.TheVariants.{SkippedBits}
-use Rattle.std.proofs.Common.{◌≡◌, ℕ, zero, suc, ◌+◌, ◌-◌, ◌^◌, ◌<◌, ◌≤◌, Bool, true, false, cond, not, T, eqb, ltb, leb, List, length, ℤ, pos, negsuc, nat_abs, Ok, Err, sym, refl, ap, ◌∙◌, subst, arith, le→leb, ltb→lt, leb→le, nltb→le, T_not}
-use lib.Signed.{le_z}
+use Rattle.std.proofs.Common.{◌≡◌, ℕ, zero, suc, ◌+◌, ◌-◌, ◌^◌, ◌<◌, ◌≤◌, Bool, true, false, cond, not, T, eqb, leb, List, length, ℤ, pos, Ok, Err, sym, refl, ap, ◌∙◌, subst, inl, inr, mod-eq_of_lt, arith, le→leb, T_not}
+use Rattle.std.proofs.lemmas.Bool.{cases_lt}
+use Rattle.bits.proofs.Numbers.{number-bits_of}
+use Rattle.rules.proofs.Facts.{via, ok_same, aligned_facts, taken_facts, natural_bound, multiple_above}
+use Rattle.rules.proofs.Booleans.{true_of, false_of, decide}
 use Rattle.rules.specs.Checks.{Check, then, ensure}
 use Rattle.bits.specs.Bits.{number, part, bits_of, length-bits_of}
-use Rattle.rules.specs.declared.lines.ReadLine.{ReadLine}
+use Rattle.records.specs.declared.statements.ReadLine.{ReadLine}
 use Rattle.rules.specs.declared.steps.Window.{Window}
 use Rattle.rules.specs.declared.steps.Got.{Got}
 use Rattle.rules.specs.Steps.{next_multiple, aligned, taken, natural, signed, at_least, at_most, element, mapped}
 use Rattle.roundtrip.specs.Own.{complement, gives_value, first_such, lowest_index}
 use Rattle.roundtrip.specs.Standing.{Zeros, Has}
-use Rattle.roundtrip.proofs.Numbers.{true_of, false_of, of_true, both, decide, number_of_bits, part_bound, has_part, zeros_number, complement-value, same_eq, same_refl, multiple_above}
-
-pub record Via {A B : Type 0} (c : Check A) (k : A → Check B) (b : B) : Type 0 where
-  pub mid : A
-  pub first : c ≡ Ok mid
-  pub second : k mid ≡ Ok b
-
-pub then_ok : {A B : Type 0} (c : Check A) (k : A → Check B) (b : B) → then c k ≡ Ok b → Via c k b
-unfolding then
-then_ok (Ok a) k b e = record { mid = a; first = refl; second = e }
-then_ok (Err f) k b e = let y : ◌≡◌ {A = ℕ} 0 1 = cc in let z : ⊥ = omega arith in absurd z
+use Rattle.roundtrip.proofs.Numbers.{has_part, zeros_number, complement-value, same_eq, same_refl}
 
 pub then_to : {A B : Type 0} (c : Check A) (k : A → Check B) (a : A) → c ≡ Ok a → then c k ≡ k a
 unfolding then
 then_to c k a e = ap (λ x. then x k) e
-
-pub ensure_ok : (b : Bool) (n : ReadingCause) (u : Unit {0}) → ensure b n ≡ Ok u → T b
-unfolding ensure
-ensure_ok true n u e = tt
-ensure_ok false n u e = let y : ◌≡◌ {A = ℕ} 0 1 = cc in let z : ⊥ = omega arith in absurd z
 
 pub to_ensure : (b : Bool) (n : ReadingCause) → T b → ensure b n ≡ Ok tt
 unfolding ensure
 to_ensure true n t = refl
 to_ensure false n t = absurd t
 
-pub via : {A B : Type 0} (P : Type 0) (c : Check A) (k : A → Check B) (b : B) → then c k ≡ Ok b → ((a : A) → c ≡ Ok a → k a ≡ Ok b → P) → P
-via P c k b e f = let v = then_ok c k b e in f v.mid v.first v.second
-
-pub ok_same : {A : Type 0} (x y : A) → ◌≡◌ {A = Check A} (Ok x) (Ok y) → x ≡ y
-ok_same x y e = cc
-
 -- alignment
-pub record Aligned (w : Window) (p q : ℕ) : Type 0 where
-  pub ahead : p ≤ q
-  pub within : q ≤ w.end
-
-module _ (w : Window) (to p q : ℕ) where
-  pub aligned_facts : (B : List Bool) → aligned B w to p ≡ Ok q → Aligned w p q
-  unfolding aligned
-  aligned_facts B e =
-      let a = then_ok _ _ q e in
-      let b = then_ok _ _ q a.second in
-      let l = leb→le _ _ (ensure_ok _ _ _ a.first) in
-      let m = multiple_above to p in
-      let x : next_multiple to p ≡ q = cc in
-      record { ahead = omega arith; within = omega arith }
-
-  pub aligned_again : (B B' : List Bool) → aligned B w to p ≡ Ok q → Zeros B' p q → aligned B' w to p ≡ Ok q
-  unfolding aligned
-  aligned_again B B' e z =
-      let a = then_ok _ _ q e in
-      let b = then_ok _ _ q a.second in
-      let m = multiple_above to p in
-      let x : next_multiple to p ≡ q = cc in
-      then_to _ _ _ a.first ∙
-      then_to _ _ tt (to_ensure _ SkippedBits (subst (λ k. T (eqb k 0)) (sym (zeros_number B' (next_multiple to p - p) p (λ k u v. z k u (omega arith)))) tt)) ∙
-      ap (λ y. Ok y) x
-
-pub aligned_is : (w : Window) (to p q : ℕ) (B : List Bool) → aligned B w to p ≡ Ok q → (next_multiple to p ≡ q) × T (leb (p + (next_multiple to p - p)) w.end)
-unfolding aligned
-aligned_is w to p q B e =
-    let a = then_ok _ _ q e in
-    let b = then_ok _ _ q a.second in
-    (ok_same _ q b.second, ensure_ok _ _ _ a.first)
-
 pub aligned_zeros : (w : Window) (to p : ℕ) (B : List Bool) → T (leb (p + (next_multiple to p - p)) w.end) → Zeros B p (next_multiple to p) →
     aligned B w to p ≡ Ok (next_multiple to p)
 unfolding aligned
@@ -85,24 +34,20 @@ aligned_zeros w to p B t z =
     then_to _ _ tt (to_ensure _ _ t) ∙
     then_to _ _ tt (to_ensure _ SkippedBits (subst (λ k. T (eqb k 0)) (sym (zeros_number B (next_multiple to p - p) p (λ k u v. z k u (omega arith)))) tt))
 
--- the next n bits
-module _ (w : Window) (n p : ℕ) where
-  pub taken_facts : (B : List Bool) (k : ℕ) → taken B w n p ≡ Ok k → (p + n ≤ w.end) × (k < 2 ^ n)
-  unfolding taken
-  taken_facts B k e =
-      let a = then_ok _ _ k e in
-      let l = leb→le (p + n) w.end (ensure_ok _ _ _ a.first) in
-      let x : number (part B p n) ≡ k = ok_same _ k a.second in
-      let b = part_bound B p n in
-      (l, omega arith)
+pub aligned_again : (w : Window) (to p q : ℕ) (B B' : List Bool) → aligned B w to p ≡ Ok q → Zeros B' p q → aligned B' w to p ≡ Ok q
+aligned_again w to p q B B' e z =
+    let f = aligned_facts B w to p q e in
+    let fits : p + (next_multiple to p - p) ≤ w.end = omega (arith, f.ahead, f.within, f.is) in
+    aligned_zeros w to p B' (le→leb _ _ fits) (subst (Zeros B' p) (sym f.is) z) ∙ ap (λ y. Ok y) f.is
 
-  pub taken_has : (B : List Bool) (k : ℕ) → p + n ≤ w.end → w.end ≤ length B → k < 2 ^ n → Has B p (bits_of n k) → taken B w n p ≡ Ok k
-  unfolding taken
-  taken_has B k l m b h =
-      let e = length-bits_of n k in
-      let x : part B p n ≡ bits_of n k = subst (λ z. part B p z ≡ bits_of n k) e (has_part B p (bits_of n k) (omega arith) h) in
-      then_to _ _ tt (to_ensure _ _ (le→leb (p + n) w.end l)) ∙
-      ap (λ y. Ok y) (ap number x ∙ number_of_bits n k b)
+-- the next n bits
+pub taken_has : (w : Window) (n p : ℕ) (B : List Bool) (k : ℕ) → p + n ≤ w.end → w.end ≤ length B → k < 2 ^ n → Has B p (bits_of n k) → taken B w n p ≡ Ok k
+unfolding taken
+taken_has w n p B k l m b h =
+    let e = length-bits_of n k in
+    let x : part B p n ≡ bits_of n k = subst (λ z. part B p z ≡ bits_of n k) e (has_part B p (bits_of n k) (omega arith) h) in
+    then_to _ _ tt (to_ensure _ _ (le→leb (p + n) w.end l)) ∙
+    ap (λ y. Ok y) (ap number x ∙ number-bits_of n k ∙ mod-eq_of_lt b)
 
 -- one element of a read
 pub record ElementAgain (w : Window) (l : ReadLine) (width low high : Check ℤ) (p : ℕ) (g : Got) : Type 0 where
@@ -113,17 +58,6 @@ pub record ElementAgain (w : Window) (l : ReadLine) (width low high : Check ℤ)
   pub fits : complement g.length g.value < 2 ^ g.length
   pub again : (B : List Bool) → w.end ≤ length B → Zeros B p g.place → Has B g.place (bits_of g.length (complement g.length g.value)) →
       element B w l width low high p ≡ Ok g
-
-natural_bound : (most n : ℕ) (v : Check ℤ) → natural most v ≡ Ok n → n ≤ most
-unfolding natural
-natural_bound most n v e =
-    via (n ≤ most) _ _ n e λ z va e.
-    via (n ≤ most) _ _ n e λ u en e.
-    subst (λ k. k ≤ most) (ok_same (nat_abs z) n e) (go z (both (le_z (pos 0) z) (le_z z (pos most)) (ensure_ok _ _ u en)))
-  where
-    go : (z : ℤ) → T (le_z (pos 0) z) × T (le_z z (pos most)) → nat_abs z ≤ most
-    go (pos k) t = leb→le k most t.1
-    go (negsuc k) t = absurd t.0
 
 pub element_again : (w : Window) (l : ReadLine) (width low high : Check ℤ) (p : ℕ) (g : Got) (B : List Bool) →
     l.ahead ≡ 0 → element B w l width low high p ≡ Ok g → ElementAgain w l width low high p g
@@ -145,8 +79,8 @@ element_again w l width low high p g B straight e =
         ElementAgain w l width low high p
         (record { value = cond l.signed (signed n raw) (pos raw); place = q; length = n; after = cond (eqb l.ahead 0) (q + n) q })
     known q n raw al wi ta lo hi =
-        let a = aligned_facts w l.alignment p q B al in
-        let t = taken_facts w n q B raw ta in
+        let a = aligned_facts B w l.alignment p q al in
+        let t = taken_facts B w n q raw ta in
         let f : cond (eqb l.ahead 0) (q + n) q ≡ q + n = ap (λ z. cond (eqb z 0) (q + n) q) straight in
         record {
           ahead = a.ahead;
@@ -170,20 +104,19 @@ first_such_finds f (suc n) x y l m t =
     decide (f x)
     (λ s. subst (λ b. T (f (cond b x (first_such f n (suc x)))) × (cond b x (first_such f n (suc x)) ≤ y)) (sym (true_of (f x) s)) (s, l))
     (λ s. subst (λ b. T (f (cond b x (first_such f n (suc x)))) × (cond b x (first_such f n (suc x)) ≤ y)) (sym (false_of (f x) s))
-    (first_such_finds f n (suc x) y (go s (ltb x y) refl) (omega arith) t))
+    (first_such_finds f n (suc x) y (later s) (omega arith) t))
   where
-    go : T (not (f x)) → (b : Bool) → ltb x y ≡ b → suc x ≤ y
-    go s true e = ltb→lt x y (of_true (ltb x y) e)
-    go s false e =
-        let u : y ≤ x = nltb→le x y (subst (λ b. T (not b)) (sym e) tt) in
-        let v : x ≡ y = omega arith in
-        absurd (T_not (f x) s (subst (λ k. T (f k)) (sym v) t))
+    later : T (not (f x)) → suc x ≤ y
+    later s = elim (cases_lt x y) [
+      | inl h ↦ h
+      | inr h ↦ (let e : y ≡ x = omega arith in absurd (T_not (f x) s (subst (λ k. T (f k)) e t)))
+    ]
 
-gives_ok : (v : ℤ) (c : Check ℤ) → T (gives_value v c) → c ≡ Ok v
+pub gives_ok : (v : ℤ) (c : Check ℤ) → T (gives_value v c) → c ≡ Ok v
 gives_ok v (Ok u) t = ap (λ z. Ok z) (same_eq u v t)
 gives_ok v (Err f) t = absurd t
 
-ok_gives : (v : ℤ) (c : Check ℤ) → c ≡ Ok v → T (gives_value v c)
+pub ok_gives : (v : ℤ) (c : Check ℤ) → c ≡ Ok v → T (gives_value v c)
 ok_gives v c e = subst (λ x. T (gives_value v x)) (sym e) (same_refl v)
 
 pub lowest_finds : (width : ℕ) (outputs : ℕ → Check ℤ) (v : ℤ) (x : ℕ) → x < 2 ^ width → outputs x ≡ Ok v →
@@ -214,7 +147,7 @@ mapped_again w width outputs p g B e =
     known : (x : ℕ) (v : ℤ) → taken B w width p ≡ Ok x → outputs x ≡ Ok v →
         MappedAgain w width outputs p (record { value = v; place = p; length = width; after = p + width })
     known x v ta ou =
-        let t = taken_facts w width p B x ta in
+        let t = taken_facts B w width p x ta in
         let f = lowest_finds width outputs v x t.1 ou in
         record {
           place = refl;

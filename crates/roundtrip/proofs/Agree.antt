@@ -1,38 +1,20 @@
 -- A step looks only at the bits up to where it ends.
 use Rattle.rules.specs.declared.faults.ReadingCause.TheVariants.{SkippedBits}
 use Rattle.std.proofs.Common.{◌≡◌, ℕ, zero, suc, ◌+◌, ◌-◌, ◌*◌, ◌%◌, ◌≤◌, Bool, true, false, cond, eqb, ltb, List, ◌∷◌, length, take, ℤ, Ok, sym, refl, ap, ◌∙◌, arith, ltb→lt, nltb→le, drop_of_length-le, drop-cons}
+use Rattle.rules.proofs.Facts.{via, ok_same, aligned_facts, taken_facts, size_facts, sized_facts, multiple_above}
+use Rattle.rules.proofs.Booleans.{decide}
 use Rattle.records.specs.declared.records.Class.{Class}
 use Rattle.rules.specs.Checks.{Check, then, ensure, pick}
 use Rattle.bits.specs.Bits.{number, part}
-use Rattle.rules.specs.declared.lines.ReadLine.{ReadLine}
+use Rattle.records.specs.declared.statements.ReadLine.{ReadLine}
 use Rattle.rules.specs.declared.steps.Window.{Window}
 use Rattle.rules.specs.declared.steps.Got.{Got}
 use Rattle.rules.specs.declared.steps.Header.{Header}
 use Rattle.rules.specs.Steps.{enough, next_multiple, aligned, taken, element, mapped, size_bytes, sized, header}
 use Rattle.rules.specs.Steps.{id_width}
-use Rattle.roundtrip.proofs.Numbers.{decide, multiple_above}
 use Rattle.roundtrip.specs.Least.{Agree, Least, Looks}
-use Rattle.roundtrip.proofs.Again.{then_to, via, ok_same, aligned_is, aligned_facts, lowest_finds}
-use Rattle.roundtrip.proofs.Sizes.{byte_cases, never, size_read}
-
--- a size ends after it begins
-size_ahead : (B : List Bool) (w : Window) (m high p : ℕ) (r : ℕ × ℕ) → size_bytes B w m high p ≡ Ok r → p + 8 ≤ r.1
-size_ahead B w zero high p r e = absurd (never B w high p r e)
-size_ahead B w (suc m) high p r e =
-    byte_cases B w (p + 8 ≤ r.1) m high p r e
-    (λ b l n q. let x : p + 8 ≡ r.1 = ap (λ (z : ℕ × ℕ). z.1) q in omega arith)
-    (λ x l n q. let y = size_ahead B w m (high * 128 + x) (p + 8) r q in omega arith)
-
-sized_beyond : (B : List Bool) (w : Window) (g p : ℕ) (r : ℕ × ℕ) → sized B w g p ≡ Ok r → p ≤ r.1
-unfolding sized
-sized_beyond B w zero p r e = let x : p ≡ r.1 = ap (λ (z : ℕ × ℕ). z.1) (ok_same _ r e) in omega arith
-sized_beyond B w (suc g) p r e =
-    via (p ≤ r.1) _ _ r e λ t si e.
-    via (p ≤ r.1) _ _ r e λ x gr e.
-    via (p ≤ r.1) _ _ r e λ y en e.
-    let f : t.1 ≡ r.1 = ap (λ (z : ℕ × ℕ). z.1) (ok_same t r e) in
-    let z = size_ahead B w 4 0 p t si in
-    omega arith
+use Rattle.roundtrip.proofs.Again.{then_to, lowest_finds}
+use Rattle.roundtrip.proofs.Sizes.{size_read}
 
 by_bits : (B C : List Bool) (w : Window) (to p : ℕ) → part B p (next_multiple to p - p) ≡ part C p (next_multiple to p - p) → aligned B w to p ≡ aligned C w to p
 unfolding aligned
@@ -57,7 +39,7 @@ module _ (B C : List Bool) (same_length : length B ≡ length C) where
   aligned_agree : (w : Window) (to p q : ℕ) → aligned B w to p ≡ Ok q → Agree B C p q → aligned C w to p ≡ Ok q
   aligned_agree w to p q e a =
       let m = multiple_above to p in
-      let f = (aligned_is w to p q B e).0 in
+      let f = (aligned_facts B w to p q e).is in
       sym (by_bits B C w to p (part_agree (next_multiple to p - p) p (λ k u v. a k u (omega arith)))) ∙ e
 
   taken_agree : (w : Window) (n p k : ℕ) → taken B w n p ≡ Ok k → Agree B C p (p + n) → taken C w n p ≡ Ok k
@@ -76,7 +58,7 @@ module _ (B C : List Bool) (same_length : length B ≡ length C) where
       let r = ok_same _ g e in
       let p₁ : q ≡ g.place = ap (λ (z : Got). z.place) r in
       let p₂ : n ≡ g.length = ap (λ (z : Got). z.length) r in
-      let f = aligned_facts w l.alignment p q B al in
+      let f = aligned_facts B w l.alignment p q al in
       let ah = f.ahead in
       then_to _ _ _ (aligned_agree w l.alignment p q al (λ k u v. a k u (omega arith))) ∙
       then_to _ _ _ wi ∙
@@ -102,7 +84,7 @@ module _ (B C : List Bool) (same_length : length B ≡ length C) where
   unfolding size_bytes
   size_bytes_agree w zero high p r e a = e
   size_bytes_agree w (suc m) high p r e a =
-      let z = size_ahead B w (suc m) high p r e in
+      let z = (size_facts B w (suc m) high p r e).0 in
       via (size_bytes C w (suc m) high p ≡ Ok r) _ _ r e λ b ta e.
       then_to _ _ _ (taken_agree w 8 p b ta (λ k u v. a k u (omega arith))) ∙
       go _ (λ e. size_bytes_agree w m (high * 128 + b % 128) (p + 8) r e (λ k u v. a k (omega arith) v)) (ltb b 128) e
@@ -131,9 +113,9 @@ module _ (B C : List Bool) (same_length : length B ≡ length C) where
       via Goal _ _ h e λ id ta e.
       via Goal _ _ h e λ s si e a.
       let f : s.1 ≡ h.after = ap (λ (z : Header). z.after) (ok_same _ h e) in
-      let x = aligned_facts w (cond (eqb g 0) 0 8) p q B al in
+      let x = aligned_facts B w (cond (eqb g 0) 0 8) p q al in
       let ah = x.ahead in
-      let y = sized_beyond B w g (q + id_width c) s si in
+      let y = (sized_facts B w g (q + id_width c) s (taken_facts B w (id_width c) q id ta).0 si).0 in
       then_to _ _ _ (aligned_agree w (cond (eqb g 0) 0 8) p q al (λ k u v. a k u (omega arith))) ∙
       then_to _ _ _ (taken_agree w (id_width c) q id ta (λ k u v. a k (omega arith) (omega arith))) ∙
       then_to _ _ _ (sized_agree w g (q + id_width c) s si (λ k u v. a k (omega arith) (omega arith))) ∙ e

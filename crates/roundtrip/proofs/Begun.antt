@@ -6,7 +6,7 @@ use Rattle.table.specs.Description.{Description}
 use Rattle.roundtrip.specs.Own.{own_bits, end_of, pending}
 use Rattle.roundtrip.specs.Standing.{Zeros, Has, Fits}
 use Rattle.rules.specs.Growth.{Begins}
-use Rattle.roundtrip.proofs.Numbers.{decide}
+use Rattle.rules.proofs.Booleans.{decide}
 
 has_shift : (b : Bool) (B : List Bool) (p : ℕ) (xs : List Bool) → Has B p xs → Has (b ∷ B) (suc p) xs
 has_shift b B p [] h = tt

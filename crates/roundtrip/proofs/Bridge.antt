@@ -1,5 +1,6 @@
 -- What can be put by the rule's own words is what can be put by the tidy reading.
 use Rattle.std.proofs.Common.{◌≡◌, ℕ, ◌-◌, Bool, true, false, List, [], ◌∷◌, ◌++◌, length, replicate, sym, ap, ◌∙◌, subst, arith, length-append}
+use Rattle.std.proofs.lemmas.List.{append-nil, append_cancel_left}
 use lib.ListN.{length-replicate}
 use Rattle.rules.specs.declared.items.Item.{Item}
 use Rattle.rules.specs.Trace.{Run, items, outcome}
@@ -16,7 +17,7 @@ use Rattle.rules.proofs.Plain.{plain_reading}
 use Rattle.rules.proofs.Tidily.{tidy_law}
 use Rattle.rules.proofs.Objects.{copy_law}
 use Rattle.rules.proofs.WholeBytes.{bytes}
-use Rattle.roundtrip.proofs.Round.{writing_law, leads_more, leads_items, leads_outcome, ends-head, head-ends, empty_tail, append_none, head-after, following, moved, start}
+use Rattle.roundtrip.proofs.Round.{writing_law, leads_more, leads_items, leads_outcome, ends-head, head-ends, head-after, following, moved, start}
 use Rattle.roundtrip.proofs.Neatly.{Tidied, ends, stops, passes, shown, cut, tidied_reading}
 
 abbrev Any : ℕ → Unit {0} → Type 0
@@ -144,10 +145,10 @@ finish_law d ch st L is w W (B, l, b, pe, po) =
     let o = ap outcome (plain_reading d B) ∙ po in
     let X = from_rule d st (bytes d ch) L W in
     let plain = X.0.plain.leads B l b in
-    let h = ends-head (X.0.other B) (empty_tail is (items (X.0.other B)) (sym (leads_items plain) ∙ e)) (sym (leads_outcome plain) ∙ o) in
+    let h = ends-head (X.0.other B) (append_cancel_left is (items (X.0.other B)) [] (sym (leads_items plain) ∙ e ∙ sym (append-nil is))) (sym (leads_outcome plain) ∙ o) in
     let g = head-ends (X.0.one B) (by_end d B (X.0.same B l b) h) in
     let tidy = X.0.tidy.leads B l b in
-    let f = (writing_law d st L true is w X.1).finish B l b (leads_items tidy ∙ ap (λ z. is ++ z) g.0 ∙ append_none is) (leads_outcome tidy ∙ g.1) in
+    let f = (writing_law d st L true is w X.1).finish B l b (leads_items tidy ∙ ap (λ z. is ++ z) g.0 ∙ append-nil is) (leads_outcome tidy ∙ g.1) in
     let t = tidy_law.same d (finished d L w) f.1 in
     record { same = t.0 ∙ f.0; ends = t.1; tidy_same = f.0; tidy_ends = f.1 }
 

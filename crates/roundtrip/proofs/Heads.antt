@@ -18,13 +18,8 @@ head-bind (pass t) k = head-bind t k
 head-bind (stop f) k = refl
 head-bind (done a) k = refl
 
-from_start : {A B : Type 0} (t : Run A) (k : A → Run B) (a : A) → head t ≡ ends a → head (bind t k) ≡ head (k a)
-unfolding onwards
-from_start t k a e = head-bind t k ∙ ap (λ h. onwards h k) e
-
-from_item : {A B : Type 0} (t r : Run A) (k : A → Run B) (i : Item) → head t ≡ gives i r → head (bind t k) ≡ gives i (bind r k)
-unfolding onwards
-from_item t r k i e = head-bind t k ∙ ap (λ h. onwards h k) e
+from : {A B : Type 0} (t : Run A) (k : A → Run B) (h : Head A) → head t ≡ h → head (bind t k) ≡ onwards h k
+from t k h e = head-bind t k ∙ ap (λ h. onwards h k) e
 
 halted_onwards : {A B : Type 0} (h : Head A) (k : A → Run B) → Halted h → Halted (onwards h k)
 unfolding onwards
@@ -38,12 +33,12 @@ unfolding onwards
 after_quiet h k a (inl z) = inl (halted_onwards h k z)
 after_quiet h k a (inr e) = inr (ap (λ x. onwards x k) e)
 
-halted_gives : {A : Type 0} (h : Head A) (i : Item) (r : Run A) → Halted h → h ≡ gives i r → ⊥
+pub halted_gives : {A : Type 0} (h : Head A) (i : Item) (r : Run A) → Halted h → h ≡ gives i r → ⊥
 halted_gives (gives j t) i r z e = z
 halted_gives (halts f) i r z e = let y : ◌≡◌ {A = ℕ} 0 1 = cc in omega arith
 halted_gives (ends a) i r z e = z
 
-halted_ends : {A : Type 0} (h : Head A) (a : A) → Halted h → h ≡ ends a → ⊥
+pub halted_ends : {A : Type 0} (h : Head A) (a : A) → Halted h → h ≡ ends a → ⊥
 halted_ends (gives j t) a z e = z
 halted_ends (halts f) a z e = let y : ◌≡◌ {A = ℕ} 0 1 = cc in omega arith
 halted_ends (ends b) a z e = z
@@ -73,6 +68,7 @@ module _ (d : Description) (L : ℕ) where
         ((C : List Bool) → length C ≡ L → Halted (head (F C)) ⊎ (head (F C) ≡ ends a)) →
         ((C : List Bool) → length C ≡ L → Zeros C p q → head (F C) ≡ ends a) →
         Stands d L end' most' q (G a) → Stands d L end' most' p (λ C. bind (F C) (λ x. G x C))
+    unfolding onwards
     through {p} q F a le any ok (stuck s) =
         stuck λ C l. subst Halted (sym (head-bind (F C) (λ x. G x C))) (go C l (after_quiet (head (F C)) (λ x. G x C) a (any C l)))
       where
@@ -83,7 +79,7 @@ module _ (d : Description) (L : ℕ) where
     through {p} q F a le any ok (quiet b le' m' any' ok') =
         quiet b (omega arith) m'
         (λ C l. subst (λ h. Halted h ⊎ (h ≡ ends b)) (sym (head-bind (F C) (λ x. G x C))) (go C l (after_quiet (head (F C)) (λ x. G x C) a (any C l))))
-        (λ C l z. from_start (F C) (λ x. G x C) a (ok C l (λ k u v. z k u (omega arith))) ∙ ok' C l (λ k u v. z k (omega arith) v))
+        (λ C l z. from (F C) (λ x. G x C) (ends a) (ok C l (λ k u v. z k u (omega arith))) ∙ ok' C l (λ k u v. z k (omega arith) v))
       where
         go : (C : List Bool) → length C ≡ L → (Halted (onwards (head (F C)) (λ x. G x C)) ⊎ (onwards (head (F C)) (λ x. G x C) ≡ head (G a C))) →
             Halted (onwards (head (F C)) (λ x. G x C)) ⊎ (onwards (head (F C)) (λ x. G x C) ≡ ends b)
@@ -97,27 +93,26 @@ module _ (d : Description) (L : ℕ) where
           st.1,
           st.2,
           λ C' l' f.
-              from_start (F C') (λ x. G x C') a (ok C' l' (λ k u v. f.0 k u (omega (arith, st.0)))) ∙ st.3 C' l' ((λ k u v. f.0 k (omega arith) v), f.1),
+              from (F C') (λ x. G x C') (ends a) (ok C' l' (λ k u v. f.0 k u (omega (arith, st.0)))) ∙ st.3 C' l' ((λ k u v. f.0 k (omega arith) v), f.1),
         ))
         (λ C i r l e. rest C i r l (was C i r l (sym (head-bind (F C) (λ x. G x C)) ∙ e)))
       where
         was : (C : List Bool) (i : Item) (r : Run B) → length C ≡ L → onwards (head (F C)) (λ x. G x C) ≡ gives i r → head (G a C) ≡ gives i r
-        was C i r l e = go (after_quiet (head (F C)) (λ x. G x C) a (any C l))
-          where
-            go : (Halted (onwards (head (F C)) (λ x. G x C)) ⊎ (onwards (head (F C)) (λ x. G x C) ≡ head (G a C))) → head (G a C) ≡ gives i r
-            go (inl z) = absurd (halted_gives _ i r z e)
-            go (inr q) = sym q ∙ e
+        was C i r l e = elim (after_quiet (head (F C)) (λ x. G x C) a (any C l)) [
+          | inl z ↦ absurd (halted_gives _ i r z e)
+          | inr q ↦ sym q ∙ e
+        ]
 
         not : (C : List Bool) → length C ≡ L → (b : B) → onwards (head (F C)) (λ x. G x C) ≡ ends b → ⊥
-        not C l b e = go (after_quiet (head (F C)) (λ x. G x C) a (any C l))
-          where
-            go : (Halted (onwards (head (F C)) (λ x. G x C)) ⊎ (onwards (head (F C)) (λ x. G x C) ≡ head (G a C))) → ⊥
-            go (inl z) = halted_ends _ b z e
-            go (inr q) = nev C l b (sym q ∙ e)
+        not C l b e = elim (after_quiet (head (F C)) (λ x. G x C) a (any C l)) [
+          | inl z ↦ halted_ends _ b z e
+          | inr q ↦ nev C l b (sym q ∙ e)
+        ]
 
     pub stands_bind : {end : A → ℕ} {most p : ℕ} {F : Fam A} → Stands d L end most p F →
         ((a : A) → p ≤ end a → end a ≤ most → Stands d L end' most' (end a) (G a)) →
         Stands d L end' most' p (λ C. bind (F C) (λ x. G x C))
+    unfolding onwards
     stands_bind {end} {most} {p} {F} (stuck s) g = stuck λ C l. subst Halted (sym (head-bind (F C) (λ x. G x C))) (halted_onwards (head (F C)) (λ x. G x C) (s C l))
     stands_bind {end} {most} {p} {F} (quiet a le m any ok) g = through (end a) F a le any ok (g a le m)
     stands_bind {end} {most} {p} {F} (hands K nev step rest) g =
@@ -125,7 +120,7 @@ module _ (d : Description) (L : ℕ) where
         (λ C l b e. not_ends (head (F C)) (λ x. G x C) b (nev C l) (sym (head-bind (F C) (λ x. G x C)) ∙ e))
         (λ C i r l e.
         let st = step C i _ l (by C i r l e).first in
-        (st.0, st.1, st.2, λ C' l' f. from_item (F C') (K i C') (λ x. G x C') i (st.3 C' l' f)))
+        (st.0, st.1, st.2, λ C' l' f. from (F C') (λ x. G x C') (gives i (K i C')) (st.3 C' l' f)))
         (λ C i r l e.
         let st = step C i _ l (by C i r l e).first in
         stands_bind (rest C i _ l (by C i r l e).first) (λ a x y. g a (omega (arith, st.0)) y))

@@ -1,6 +1,10 @@
 -- A reading stands, at each place, as a writing wants it.
 use Rattle.rules.specs.declared.faults.ReadingCause.TheVariants.{UnknownId, BitsLeft, TooManyRounds}
 use Rattle.std.proofs.Common.{◌≡◌, ℕ, zero, suc, ◌+◌, ◌-◌, ◌*◌, ◌^◌, ◌<◌, ◌≤◌, Bool, true, false, not, ◌&&◌, ◌||◌, T, eqb, ltb, leb, ◌⊎◌, List, [], ◌∷◌, length, drop, ℤ, nat_abs, Ok, Err, sym, refl, ap, ◌∙◌, subst, inl, inr, arith, leb→le, T_not, length-drop, take_all}
+use Rattle.std.proofs.Math.Facts.{and_yes, yes_and}
+use lib.Dec.{nleb→lt}
+use Rattle.rules.proofs.Facts.{ensure_ok, via, ok_same, aligned_facts, multiple_above, inner_facts, closed_facts, place_of}
+use Rattle.rules.proofs.Booleans.{decide}
 use Rattle.records.specs.declared.records.Extension.{Extension}
 use Rattle.rules.specs.declared.items.Item.{Item}
 use Rattle.rules.specs.Trace.{Run, out, pass, done, bind}
@@ -13,10 +17,10 @@ use Rattle.rules.specs.declared.steps.Window.{Window}
 use Rattle.rules.specs.declared.steps.Got.{Got}
 use Rattle.rules.specs.declared.steps.Header.{Header}
 use Rattle.rules.specs.Steps.{aligned, element, mapped, header, at_end, next_multiple}
-use Rattle.records.specs.declared.statements.Statement.TheVariants.{MapRead}
+use Rattle.records.specs.declared.statements.Statement.TheVariants.{MapRead, Read, Use}
 use Rattle.records.specs.Statements.{statement}
-use Rattle.rules.specs.declared.lines.ReadLine.{ReadLine}
-use Rattle.rules.specs.declared.lines.UseLine.{UseLine}
+use Rattle.records.specs.declared.statements.ReadLine.{ReadLine}
+use Rattle.records.specs.declared.statements.UseLine.{UseLine}
 use Rattle.rules.specs.Code.{Code, finish, read, assign, map_read, use_of, branch, while, code}
 use Rattle.rules.specs.Reading.{State, Object, Objects, write, all_zero, moved, after_read, after_object, value_item, open_item, close_item, valued, counted, elements, objects, enough_objects, objects_to_end, used, rounds, run, stretch, extensions, content, inner, closed}
 use Rattle.rules.specs.Tidy.{closable, opened_by, object_by, reading_by}
@@ -26,14 +30,11 @@ use Rattle.rules.specs.Steps.{id_width}
 use Rattle.roundtrip.specs.Standing.{gives, ends, head, Halted, Fam, Zeros, Has, Fits, Stands, stuck, quiet, hands}
 use Rattle.roundtrip.specs.Writing.{Straight, StandingLaw}
 use Rattle.roundtrip.proofs.Heads.{stands_bind, stands_pass, stands_done, stands_attempt, stands_pick, stands_same}
-use Rattle.roundtrip.proofs.Numbers.{both, with_both, decide, zeros_number, multiple_above}
-use Rattle.roundtrip.proofs.Again.{then_to, ensure_ok, to_ensure, via, ok_same, aligned_is, aligned_zeros, element_again, mapped_again}
+use Rattle.roundtrip.proofs.Numbers.{zeros_number}
+use Rattle.roundtrip.proofs.Again.{then_to, to_ensure, aligned_zeros, element_again, mapped_again}
 use Rattle.roundtrip.proofs.Sizes.{header_again}
 use Rattle.roundtrip.proofs.Lines.{Tells, code_tells}
-use Rattle.rules.proofs.Same.{reads, uses, Each}
-
-abbrev pub place_of : State → ℕ
-place_of s = s.place
+use Rattle.rules.proofs.Same.{Each}
 
 -- what an attempt that hands out or ends came from
 pub record Came {X A : Type 0} (r : Check X) (item : X → Item) (k : X → Run A) (i : Item) (t : Run A) : Type 0 where
@@ -109,11 +110,11 @@ module _ (d : Description) (L : ℕ) where
       (λ t. stuck (λ B l. no_way t B (aligned B w to p) refl))
     where
       go : (B : List Bool) (r : Check ℕ) → aligned B w to p ≡ r → Halted (head (attempt line place r done)) ⊎ (head (attempt line place r done) ≡ ends (next_multiple to p))
-      go B (Ok q) e = inr (ap ends (sym (aligned_is w to p q B e).0))
+      go B (Ok q) e = inr (ap ends (sym (aligned_facts B w to p q e).is))
       go B (Err f) e = inl tt
 
       no_way : T (not (leb (p + (next_multiple to p - p)) w.end)) → (B : List Bool) (r : Check ℕ) → aligned B w to p ≡ r → Halted (head (attempt line place r done))
-      no_way t B (Ok q) e = absurd (T_not _ t (aligned_is w to p q B e).1)
+      no_way t B (Ok q) e = (let f = aligned_facts B w to p q e in let l = nleb→lt _ _ t in absurd (omega (arith, f.ahead, f.within, f.is)))
       no_way t B (Err f) e = tt
 
   pub stands_aligned : {A : Type 0} {end : A → ℕ} {most : ℕ} (w : Window) (to p line place : ℕ) (G : ℕ → Fam A) →
@@ -123,7 +124,7 @@ module _ (d : Description) (L : ℕ) where
       (stands_bind d L G (quiet_aligned w to p line place) h)
 
   -- own bits of the items of lines
-  pub read_own : (o : Object) (line index : ℕ) (l : ReadLine) (g : Got) → statement (line_at d line) ≡ reads l →
+  pub read_own : (o : Object) (line index : ℕ) (l : ReadLine) (g : Got) → statement (line_at d line) ≡ Read l →
       own_bits d (value_item o line index g) ≡ bits_of g.length (complement g.length g.value)
   unfolding value_bits
   read_own o line index l g e = ap (λ st. value_bits d st g.value g.length) e
@@ -133,7 +134,7 @@ module _ (d : Description) (L : ℕ) where
   unfolding value_bits
   map_own o line index m name g e = ap (λ st. value_bits d st g.value g.length) e
 
-  read_sensible : (o : Object) (line index : ℕ) (l : ReadLine) (g : Got) → statement (line_at d line) ≡ reads l → g.length ≤ 32 →
+  read_sensible : (o : Object) (line index : ℕ) (l : ReadLine) (g : Got) → statement (line_at d line) ≡ Read l → g.length ≤ 32 →
       complement g.length g.value < 2 ^ g.length → Sensible d (value_item o line index g)
   unfolding SensibleValue
   read_sensible o line index l g e x y = subst (λ st. SensibleValue d st g.value g.length) (sym e) (x, y)
@@ -145,7 +146,7 @@ module _ (d : Description) (L : ℕ) where
   map_sensible o line index m name g e x = subst (λ st. SensibleValue d st g.value g.length) (sym e) x
 
   module _ (o : Object) (inside : o.window.end ≤ L) where
-    pub stands_elements : (line : ℕ) (l : ReadLine) → Tells d (reads l) line → (n index : ℕ) (s : State) → s.place ≤ o.window.end →
+    pub stands_elements : (line : ℕ) (l : ReadLine) → Tells d (Read l) line → (n index : ℕ) (s : State) → s.place ≤ o.window.end →
         Stands d L place_of o.window.end s.place (λ B. elements d B o line l n index s)
     unfolding elements
     stands_elements line l ok zero index s h = stands_pass d L (stands_done d L s (omega arith) h)
@@ -173,7 +174,7 @@ module _ (d : Description) (L : ℕ) where
     module _ (obj : List Bool → Objects)
         (objs : (line declared index : ℕ) (w : Window) (p : ℕ) → declared_at d line ≡ declared → p ≤ w.end → w.end ≤ L →
         Stands d L place_of w.end p (λ B. obj B line declared index w p)) where
-      pub stands_objects : (line : ℕ) (l : UseLine) → Tells d (uses l) line → (n index : ℕ) (s : State) → s.place ≤ o.window.end →
+      pub stands_objects : (line : ℕ) (l : UseLine) → Tells d (Use l) line → (n index : ℕ) (s : State) → s.place ≤ o.window.end →
           Stands d L place_of o.window.end s.place (λ B. objects d B (obj B) o line l n index s)
       unfolding objects
       stands_objects line l ok zero index s h = stands_pass d L (stands_done d L s (omega arith) h)
@@ -187,7 +188,7 @@ module _ (d : Description) (L : ℕ) where
       stands_enough line l index s h =
           stands_attempt d L line s.place _ (λ u B. pass (done s)) (λ u e. stands_pass d L (stands_done d L s (omega arith) h))
 
-      pub stands_to_end : (line : ℕ) (l : UseLine) → Tells d (uses l) line → (n index : ℕ) (s : State) → s.place ≤ o.window.end →
+      pub stands_to_end : (line : ℕ) (l : UseLine) → Tells d (Use l) line → (n index : ℕ) (s : State) → s.place ≤ o.window.end →
           Stands d L place_of o.window.end s.place (λ B. objects_to_end d B (obj B) o line l n index s)
       unfolding objects_to_end
       stands_to_end line l ok zero index s h = stands_enough line l index s h
@@ -201,7 +202,7 @@ module _ (d : Description) (L : ℕ) where
           (objs line l.class index o.window s.place ok h inside)
           (λ t le m. stands_to_end line l ok n (suc index) (after_object l t s) m))
 
-      pub stands_used : (line : ℕ) (l : UseLine) → Tells d (uses l) line → (k : ℕ) (s : State) → s.place ≤ o.window.end →
+      pub stands_used : (line : ℕ) (l : UseLine) → Tells d (Use l) line → (k : ℕ) (s : State) → s.place ≤ o.window.end →
           Stands d L place_of o.window.end s.place (λ B. used d B (obj B) o line l k s)
       unfolding used
       stands_used line l ok zero s h = stands_pass d L (stands_to_end line l ok l.most 0 s h)
@@ -307,24 +308,13 @@ module _ (d : Description) (L : ℕ) where
             (stands_stretch (class_at d (suc n)).first (class_at d (suc n)).number s h) λ s le h.
             stands_extensions d.extensions s h
 
-  -- the window inside an object, and its close
-  pub inner_facts : (B : List Bool) (g : ℕ) (h : Header) (w : Window) → h.after + 8 * h.size ≤ w.end →
-      (h.after ≤ (inner d B g h w).end) × ((inner d B g h w).end ≤ w.end)
-  inner_facts B zero h w l = (omega arith, omega arith)
-  inner_facts B (suc g) h w l = (omega arith, l)
-
-  pub closed_facts : (B : List Bool) (g : ℕ) (w : Window) (s : State) → s.place ≤ w.end →
-      (s.place ≤ (closed d B g w s).place) × ((closed d B g w s).place ≤ w.end)
-  closed_facts B zero w s l = (omega arith, l)
-  closed_facts B (suc g) w s l = (l, omega arith)
-
   closable_again : (tidy : Bool) (g : ℕ) (w : Window) (s : State) (B B' : List Bool) (u : Unit {0}) → s.place ≤ w.end →
       closable d B tidy g w s.place ≡ Ok u → Zeros B' s.place (closed d B g w s).place → closable d B' tidy g w s.place ≡ Ok tt
   closable_again false g w s B B' u l e z = refl
   closable_again true zero w s B B' u l e z = refl
   closable_again true (suc g) w s B B' u l e z =
-      let t = both (eqb (next_multiple 8 s.place) w.end) _ (ensure_ok _ _ _ e) in
-      to_ensure _ _ (with_both _ _ t.0
+      let t = and_yes (eqb (next_multiple 8 s.place) w.end) _ (ensure_ok _ _ _ e) in
+      to_ensure _ _ (yes_and _ _ t.0
       (subst (λ k. T (eqb k 0)) (sym (zeros_number B' (w.end - s.place) s.place (λ k u v. z k u (omega arith)))) tt))
 
   -- after the open: content and close
@@ -344,7 +334,7 @@ module _ (d : Description) (L : ℕ) where
         stands_step line s.place (λ B. closable d B tidy g w s.place) (λ _. close_item c line index (closed d [] g w s).place)
         (λ _ B. done (closed d B g w s)) (λ i B. done (closed d B g w s))
         λ B u len e.
-        let f = closed_facts B g w s h in
+        let f = closed_facts d B g w s h in
         record {
           ahead = f.0;
           within = omega (arith, f.1);
@@ -360,7 +350,7 @@ module _ (d : Description) (L : ℕ) where
         Stands d L place_of w.end h.after (inside tidy obj c g line index h w)
     stands_inside obj objs c g line index h w l m =
         let o : Object = record { class = c; size = h.size; window = inner d [] g h w } in
-        let f = inner_facts [] g h w l in
+        let f = inner_facts d [] g h w l in
         stands_bind d L
         (λ s B. attempt line s.place (closable d B tidy g o.window s.place) λ _.
         out (close_item c line index (closed d B g o.window s).place) (done (closed d B g o.window s)))
@@ -427,7 +417,7 @@ module _ (d : Description) (L : ℕ) where
         decide (ltb (L - p) 8)
         (λ t. quiet tt l (omega arith) (λ B e. go (at_end B p))
         (λ B e z. ap (λ c. head (attempt 0 p c done))
-        (to_ensure _ BitsLeft (with_both (ltb (length B - p) 8) (eqb (number (drop p B)) 0)
+        (to_ensure _ BitsLeft (yes_and (ltb (length B - p) 8) (eqb (number (drop p B)) 0)
         (subst (λ n. T (ltb (n - p) 8)) (sym e) t) (subst (λ n. T (eqb n 0)) (sym (zeros_drop B p l e z)) tt)))))
         (λ t. stuck (λ B e. no_way t B e (at_end B p) refl))
       where
@@ -437,7 +427,7 @@ module _ (d : Description) (L : ℕ) where
 
         no_way : T (not (ltb (L - p) 8)) → (B : List Bool) → length B ≡ L → (c : Check (Unit {0})) → at_end B p ≡ c → Halted (head (attempt 0 p c done))
         no_way t B e (Ok u) q =
-            let y = both (ltb (length B - p) 8) (eqb (number (drop p B)) 0) (ensure_ok _ _ u q) in
+            let y = and_yes (ltb (length B - p) 8) (eqb (number (drop p B)) 0) (ensure_ok _ _ u q) in
             absurd (T_not (ltb (L - p) 8) t (subst (λ n. T (ltb (n - p) 8)) e y.0))
         no_way t B e (Err f) q = tt
 

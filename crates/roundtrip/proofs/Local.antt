@@ -1,12 +1,11 @@
 -- What a reading does from a place on does not look at the bits before it, and places never go back.
 use Rattle.rules.specs.declared.faults.ReadingCause.TheVariants.{SkippedBits, UnknownId, TooFew, BitsLeft, TooManyRounds}
-use Rattle.std.proofs.Common.{◌≡◌, ℕ, zero, suc, ◌+◌, ◌-◌, ◌*◌, ◌%◌, ◌≤◌, Bool, true, false, cond, not, ◌&&◌, ◌||◌, eqb, ltb, leb, List, [], ◌∷◌, length, take, drop, ℤ, Ok, Err, sym, refl, ap, ◌∙◌, subst, arith, leb→le, drop-drop}
+use Rattle.std.proofs.Common.{◌≡◌, ℕ, zero, suc, ◌+◌, ◌-◌, ◌*◌, ◌%◌, ◌≤◌, Bool, true, false, cond, not, ◌&&◌, ◌||◌, eqb, ltb, leb, List, [], ◌∷◌, length, take, drop, ℤ, Ok, Err, sym, refl, ap, ◌∙◌, arith, drop-drop}
 use Rattle.records.specs.declared.records.Class.{Class}
 use Rattle.records.specs.declared.records.Extension.{Extension}
 use Rattle.rules.specs.declared.items.Item.{Item}
 use Rattle.rules.specs.Trace.{Run, out, pass, stop, done, bind}
 use Rattle.rules.specs.Checks.{Check, then, ensure, pick, attempt}
-use Rattle.records.specs.Classes.{is_base}
 use Rattle.table.specs.Description.{Description, class_at, map_at}
 use Rattle.rules.specs.Lookups.{greatest, object_class, map_output}
 use Rattle.rules.specs.Values.{is_zero}
@@ -15,17 +14,13 @@ use Rattle.rules.specs.declared.steps.Window.{Window}
 use Rattle.rules.specs.declared.steps.Got.{Got}
 use Rattle.rules.specs.declared.steps.Header.{Header}
 use Rattle.rules.specs.Steps.{aligned, natural, element, mapped, size_bytes, sized, taken, enough, header, next_multiple}
-use Rattle.rules.specs.declared.lines.ReadLine.{ReadLine}
-use Rattle.rules.specs.declared.lines.UseLine.{UseLine}
+use Rattle.records.specs.declared.statements.ReadLine.{ReadLine}
+use Rattle.records.specs.declared.statements.UseLine.{UseLine}
 use Rattle.rules.specs.Code.{Code, finish, read, assign, map_read, use_of, branch, while, code}
 use Rattle.rules.specs.Reading.{State, Object, Objects, write, all_zero, moved, after_read, after_object, value_item, open_item, close_item, valued, counted, elements, objects, enough_objects, objects_to_end, used, rounds, run, stretch, extensions, content, inner, closed}
 use Rattle.rules.specs.Tidy.{closable, opened_by, object_by}
 use Rattle.roundtrip.specs.Standing.{Fam, LocalLaw}
-use Rattle.roundtrip.proofs.Again.{ensure_ok, via, ok_same, aligned_facts, taken_facts}
-use Rattle.roundtrip.proofs.Sizes.{size_read}
-
-abbrev pub place_of : State → ℕ
-place_of s = s.place
+use Rattle.rules.proofs.Facts.{aligned_facts, element_facts, mapped_facts, header_facts, inner_facts, closed_facts, place_of}
 
 -- bits that are equal from p on are so from any later place on
 later : (B C : List Bool) (p q : ℕ) → p ≤ q → drop p B ≡ drop p C → drop q B ≡ drop q C
@@ -56,7 +51,7 @@ module _ (B C : List Bool) where
   unfolding element
   element_local w l width low high p e =
       then_same _ _ _ _ (aligned_local w l.alignment p e) λ q al.
-      let f = aligned_facts w l.alignment p q C al in
+      let f = aligned_facts C w l.alignment p q al in
       then_same _ _ _ _ refl λ n wi.
       then_same _ _ _ _ (taken_local w n q (later B C p q f.ahead e)) λ raw ta. refl
 
@@ -80,65 +75,9 @@ module _ (B C : List Bool) where
   unfolding header
   header_local w c g p e =
       then_same _ _ _ _ (aligned_local w (cond (eqb g 0) 0 8) p e) λ q al.
-      let f = aligned_facts w (cond (eqb g 0) 0 8) p q C al in
+      let f = aligned_facts C w (cond (eqb g 0) 0 8) p q al in
       then_same _ _ _ _ (taken_local w _ q (later B C p q f.ahead e)) λ id ta.
       then_same _ _ _ _ (sized_local w g _ (later B C p _ (omega (arith, f.ahead)) e)) λ s si. refl
-
--- where elements end
-pub element-after : (w : Window) (l : ReadLine) (width low high : Check ℤ) (p : ℕ) (g : Got) (B : List Bool) → element B w l width low high p ≡ Ok g → (p ≤ g.after) × (g.after ≤ w.end)
-unfolding element
-element-after w l width low high p g B e =
-    via Goal _ _ g e λ q al e.
-    via Goal _ _ g e λ n wi e.
-    via Goal _ _ g e λ raw ta e.
-    via Goal _ _ g e λ x lo e.
-    via Goal _ _ g e λ y hi e.
-    subst (λ (g : Got). (p ≤ g.after) × (g.after ≤ w.end)) (ok_same _ g e) (go (eqb l.ahead 0) q n (aligned_facts w l.alignment p q B al).ahead (aligned_facts w l.alignment p q B al).within (taken_facts w n q B raw ta).0)
-  where
-    Goal : Type 0
-    Goal = (p ≤ g.after) × (g.after ≤ w.end)
-
-    go : (b : Bool) (q n : ℕ) → p ≤ q → q ≤ w.end → q + n ≤ w.end → (p ≤ cond b (q + n) q) × (cond b (q + n) q ≤ w.end)
-    go true q n x y z = (omega arith, z)
-    go false q n x y z = (x, y)
-
-pub mapped-after : (w : Window) (width : ℕ) (outputs : ℕ → Check ℤ) (p : ℕ) (g : Got) (B : List Bool) → mapped B w width outputs p ≡ Ok g → (p ≤ g.after) × (g.after ≤ w.end)
-unfolding mapped
-mapped-after w width outputs p g B e =
-    via Goal _ _ g e λ x ta e.
-    via Goal _ _ g e λ v ou e.
-    subst (λ (g : Got). (p ≤ g.after) × (g.after ≤ w.end)) (ok_same _ g e) (omega arith, (taken_facts w width p B x ta).0)
-  where
-    Goal : Type 0
-    Goal = (p ≤ g.after) × (g.after ≤ w.end)
-
-sized-after : (w : Window) (g r : ℕ) (s : ℕ × ℕ) (B : List Bool) → r ≤ w.end → sized B w g r ≡ Ok s → (r ≤ s.1) × (s.1 + 8 * s.0 ≤ w.end)
-unfolding sized
-sized-after w zero r s B l e = subst (λ (s : ℕ × ℕ). (r ≤ s.1) × (s.1 + 8 * s.0 ≤ w.end)) (ok_same _ s e) (omega arith, omega arith)
-sized-after w (suc g) r s B l e =
-    via Goal _ _ s e λ t si e.
-    via Goal _ _ s e λ x gr e.
-    via Goal _ _ s e λ y en e.
-    let f = size_read w r B t si in
-    let few = f.fewest in
-    subst (λ (s : ℕ × ℕ). (r ≤ s.1) × (s.1 + 8 * s.0 ≤ w.end)) (ok_same t s e) (omega arith, leb→le (t.1 + 8 * t.0) w.end (ensure_ok _ _ y en))
-  where
-    Goal : Type 0
-    Goal = (r ≤ s.1) × (s.1 + 8 * s.0 ≤ w.end)
-
-pub header-after : (w : Window) (c : Class) (g p : ℕ) (h : Header) (B : List Bool) → header B w c g p ≡ Ok h → (p ≤ h.after) × (h.after + 8 * h.size ≤ w.end)
-unfolding header
-header-after w c g p h B e =
-    via Goal _ _ h e λ q al e.
-    via Goal _ _ h e λ id ta e.
-    via Goal _ _ h e λ s si e.
-    let a = aligned_facts w (cond (eqb g 0) 0 8) p q B al in
-    let t = taken_facts w (cond (is_base c) c.width 0) q B id ta in
-    let z = sized-after w g (q + cond (is_base c) c.width 0) s B t.0 si in
-    subst (λ (h : Header). (p ≤ h.after) × (h.after + 8 * h.size ≤ w.end)) (ok_same _ h e) (omega (arith, a.ahead, z.0), z.1)
-  where
-    Goal : Type 0
-    Goal = (p ≤ h.after) × (h.after + 8 * h.size ≤ w.end)
 
 -- how a run ends
 abbrev pub EndsIn : {A : Type 0} → (A → Type 0) → Run A → Type 0
@@ -238,8 +177,8 @@ module _ (d : Description) where
         (λ g B. out (value_item o line index g) (elements d B o line l n (suc index) (after_read l.name g s)))
         (λ B C e. element_local B C o.window l _ _ _ s.place e)
         λ B g e.
-        let a = element-after o.window l _ _ _ s.place g B e in
-        (a.0, sees_out (value_item o line index g) (sees_elements line l n (suc index) (after_read l.name g s) a.1))
+        let a = element_facts B o.window l _ _ _ s.place g e in
+        (omega (arith, a.ahead, a.onward), sees_out (value_item o line index g) (sees_elements line l n (suc index) (after_read l.name g s) a.after))
 
     module _ (obj : List Bool → Objects)
         (objs : (line declared index : ℕ) (w : Window) (p : ℕ) → p ≤ w.end → Sees place_of w.end p (λ B. obj B line declared index w p)) where
@@ -309,8 +248,8 @@ module _ (d : Description) where
           (λ g B. out (value_item o line 0 g) (run d B (obj B) o c (after_read name g s)))
           (λ B C e. mapped_local B C o.window _ _ s.place e)
           λ B g e.
-          let a = mapped-after o.window _ _ s.place g B e in
-          (a.0, sees_out (value_item o line 0 g) (sees_run c (after_read name g s) a.1))
+          let a = mapped_facts B o.window _ _ s.place g e in
+          (omega (arith, a.after), sees_out (value_item o line 0 g) (sees_run c (after_read name g s) (omega (arith, a.after, a.within))))
       sees_run (use_of line l c) s h =
           sees_bind (λ t B. run d B (obj B) o c t) (sees_used line l l.count s h) (λ t le m. sees_run c t m)
       sees_run (branch line node a b c) s h =
@@ -334,7 +273,7 @@ module _ (d : Description) where
           (λ _ B. pass (extensions d B (obj B) o es s))
           (sees_try (λ (q : ℕ). q) e.first s.place (λ B. aligned B o.window 8 s.place) next
           (λ B C q. aligned_local B C o.window 8 s.place q) λ B q x.
-          let a = aligned_facts o.window 8 s.place q B x in (
+          let a = aligned_facts B o.window 8 s.place q x in (
             a.ahead,
             sees_pass (sees_pick (eqb q o.window.end)
                 (λ _ B. done (moved q s))
@@ -369,20 +308,12 @@ module _ (d : Description) where
   closable_local B C true (suc g) w p e =
       ap (λ l. ensure (eqb (next_multiple 8 p) w.end && eqb (number (take (w.end - p) l)) 0) BitsLeft) e
 
-  inner_end : (g : ℕ) (h : Header) (w : Window) → h.after + 8 * h.size ≤ w.end → (h.after ≤ (inner d [] g h w).end) × ((inner d [] g h w).end ≤ w.end)
-  inner_end zero h w l = (omega arith, omega arith)
-  inner_end (suc g) h w l = (omega arith, l)
-
-  closed_end : (g : ℕ) (w : Window) (s : State) → s.place ≤ w.end → (s.place ≤ (closed d [] g w s).place) × ((closed d [] g w s).place ≤ w.end)
-  closed_end zero w s l = (omega arith, l)
-  closed_end (suc g) w s l = (l, omega arith)
-
   module _ (tidy : Bool) where
     pub sees_closing : (c g line index : ℕ) (w : Window) (s : State) (most : ℕ) → s.place ≤ w.end → w.end ≤ most →
         Sees place_of most s.place
         (λ B. attempt line s.place (closable d B tidy g w s.place) λ _. out (close_item c line index (closed d B g w s).place) (done (closed d B g w s)))
     sees_closing c g line index w s most h m =
-        let f = closed_end g w s h in
+        let f = closed_facts d [] g w s h in
         sees_try (λ _. s.place) line s.place (λ B. closable d B tidy g w s.place)
         (λ _ B. out (close_item c line index (closed d B g w s).place) (done (closed d B g w s)))
         (λ B C e. closable_local B C tidy g w s.place e)
@@ -400,9 +331,9 @@ module _ (d : Description) where
         out (close_item (object_class d declared h.id) line index (closed d B (greatest d declared) (inner d B (greatest d declared) h w) s).place) (done (closed d B (greatest d declared) (inner d B (greatest d declared) h w) s))))
         (λ B C e. header_local B C w (class_at d declared) (greatest d declared) p e)
         λ B h e.
-        let a = header-after w (class_at d declared) (greatest d declared) p h B e in
-        let f = inner_end (greatest d declared) h w a.1 in (
-          a.0,
+        let a = header_facts B w (class_at d declared) (greatest d declared) p h e in
+        let f = inner_facts d [] (greatest d declared) h w a.within in (
+          omega (arith, a.ahead, a.onward),
           sees_attempt line p _ _ λ u.
               sees_out _ (sees_bind _
               (sees_content (record { class = object_class d declared h.id; size = h.size; window = inner d [] (greatest d declared) h w }) (λ B. object_by d B tidy n) (sees_object n)

@@ -1,9 +1,13 @@
 -- The tidy reading goes as the plain one does, up to the first item that is not neat.
+use Rattle.records.specs.declared.statements.Statement.TheVariants.{Read, Use}
 use Rattle.rules.specs.declared.faults.ReadingCause.TheVariants.{UnknownId, BitsLeft}
-use Rattle.std.proofs.Common.{◌≡◌, ℕ, zero, suc, ◌+◌, ◌-◌, ◌*◌, ◌/◌, ◌%◌, ◌^◌, ◌<◌, ◌≤◌, Bool, true, false, cond, not, ◌&&◌, ◌||◌, T, eqb, ltb, leb, List, [], ◌∷◌, length, get_or, take, drop, ℤ, Ok, Err, sym, refl, ap, ◌∙◌, subst, arith, eqb→eq, ltb→lt, nltb→le, drop-cons, pow_pos}
-use lib.Dec.{eqb_refl, eqb-suc-zero}
+use Rattle.std.proofs.Common.{◌≡◌, ℕ, zero, suc, ◌+◌, ◌-◌, ◌*◌, ◌/◌, ◌%◌, ◌^◌, ◌<◌, ◌≤◌, Bool, true, false, not, ◌&&◌, ◌||◌, T, eqb, ltb, leb, List, [], ◌∷◌, length, get_or, take, drop, ℤ, Ok, Err, sym, refl, ap, ◌∙◌, subst, arith, eqb→eq, ltb→lt, nltb→le, drop-cons, pow_pos}
+use Rattle.std.proofs.Math.Facts.{and_yes, yes_and}
+use Rattle.std.proofs.lemmas.Bool.{eqb-true}
+use Rattle.rules.proofs.Facts.{ensure_ok, via, ok_same, aligned_facts, header_facts, inner_facts, multiple_above}
+use Rattle.rules.proofs.Booleans.{decide}
+use lib.Dec.{eqb_refl}
 use lib.ListN.{get_or-eq_default}
-use Rattle.records.specs.declared.records.Class.{Class}
 use Rattle.rules.specs.declared.faults.ReadingFault.{ReadingFault}
 use Rattle.records.specs.declared.records.Extension.{Extension}
 use Rattle.rules.specs.declared.items.Item.{Item}
@@ -16,29 +20,24 @@ use Rattle.bits.specs.Bits.{bit_value, number, part, length-bits_of}
 use Rattle.rules.specs.declared.steps.Window.{Window}
 use Rattle.rules.specs.declared.steps.Got.{Got}
 use Rattle.rules.specs.declared.steps.Header.{Header}
-use Rattle.rules.specs.Steps.{aligned, size_bytes, sized, header, at_end, next_multiple}
-use Rattle.rules.specs.declared.lines.ReadLine.{ReadLine}
-use Rattle.rules.specs.declared.lines.UseLine.{UseLine}
+use Rattle.rules.specs.Steps.{aligned, header, at_end, next_multiple}
+use Rattle.records.specs.declared.statements.ReadLine.{ReadLine}
+use Rattle.records.specs.declared.statements.UseLine.{UseLine}
 use Rattle.rules.specs.Code.{Code, finish, read, assign, map_read, use_of, branch, while, code}
 use Rattle.rules.specs.Reading.{State, Object, Objects, write, all_zero, moved, after_read, after_object, value_item, open_item, close_item, elements, objects, enough_objects, objects_to_end, used, rounds, run, extensions, content, inner, closed}
 use Rattle.rules.specs.Tidy.{closable, opened_by, object_by, reading_by}
 use Rattle.roundtrip.specs.Own.{complement, header_bits, own_bits, end_of}
 use Rattle.rules.specs.Order.{declared_at}
-use Rattle.rules.specs.Steps.{id_width}
 use Rattle.roundtrip.specs.Standing.{Zeros, Has, Fits}
 use Rattle.roundtrip.specs.Writing.{Straight}
 use Rattle.roundtrip.specs.Rule.{Neat}
 use Rattle.rules.specs.Order.{Bytes}
-use Rattle.roundtrip.proofs.Numbers.{of_true, both, with_both, decide, zeros_number, multiple_above}
-use Rattle.roundtrip.proofs.Again.{ensure_ok, via, ok_same, aligned_is, aligned_facts, element_again, mapped_again}
-use Rattle.roundtrip.proofs.Sizes.{header_again, byte_cases, never}
-use Rattle.roundtrip.proofs.Lifted.{read_own, map_own, inner_facts}
-use Rattle.roundtrip.proofs.Local.{header-after}
+use Rattle.roundtrip.proofs.Numbers.{zeros_number}
+use Rattle.roundtrip.proofs.Again.{element_again, mapped_again}
+use Rattle.roundtrip.proofs.Sizes.{header_again}
+use Rattle.roundtrip.proofs.Lifted.{read_own, map_own}
 use Rattle.roundtrip.proofs.Lines.{Tells, code_tells}
-use Rattle.rules.proofs.Same.{reads, uses, Each}
-
-abbrev pub place_of : State → ℕ
-place_of s = s.place
+use Rattle.rules.proofs.Same.{Each}
 
 -- bits that write 0 are 0
 number_zeros : (B : List Bool) (n p : ℕ) → number (part B p n) ≡ 0 → Zeros B p (p + n)
@@ -70,44 +69,6 @@ aligned_skips w to p q B e =
     let z = number_zeros B (next_multiple to p - p) p (eqb→eq _ 0 (ensure_ok _ _ y ze)) in
     λ k u v. z k u (omega arith)
 
--- an object's content begins at a byte
-size_bytes_even : (B : List Bool) (w : Window) (m high p : ℕ) (r : ℕ × ℕ) → size_bytes B w m high p ≡ Ok r → r.1 % 8 ≡ p % 8
-size_bytes_even B w zero high p r e = absurd (never B w high p r e)
-size_bytes_even B w (suc m) high p r e =
-    byte_cases B w (r.1 % 8 ≡ p % 8) m high p r e
-    (λ b l n q. let x : p + 8 ≡ r.1 = ap (λ (z : ℕ × ℕ). z.1) q in omega arith)
-    (λ x l n q. let y = size_bytes_even B w m (high * 128 + x) (p + 8) r q in omega arith)
-
-sized_even : (B : List Bool) (w : Window) (g p : ℕ) (r : ℕ × ℕ) → sized B w g p ≡ Ok r → r.1 % 8 ≡ p % 8
-unfolding sized
-sized_even B w zero p r e = let x : p ≡ r.1 = ap (λ (z : ℕ × ℕ). z.1) (ok_same _ r e) in omega arith
-sized_even B w (suc g) p r e =
-    via Goal _ _ r e λ t si e.
-    via Goal _ _ r e λ x gr e.
-    via Goal _ _ r e λ y en e.
-    let f : t.1 ≡ r.1 = ap (λ (z : ℕ × ℕ). z.1) (ok_same t r e) in
-    let h = size_bytes_even B w 4 0 p t si in
-    omega arith
-  where
-    Goal : Type 0
-    Goal = r.1 % 8 ≡ p % 8
-
-header_even : (B : List Bool) (w : Window) (c : Class) (g p : ℕ) (h : Header) → 0 < g → id_width c % 8 ≡ 0 → header B w c g p ≡ Ok h → h.after % 8 ≡ 0
-unfolding header
-header_even B w c zero p h l by e = let z : ⊥ = omega arith in absurd z
-header_even B w c (suc g) p h l by e =
-    via Goal _ _ h e λ q al e.
-    via Goal _ _ h e λ id ta e.
-    via Goal _ _ h e λ s si e.
-    let f : s.1 ≡ h.after = ap (λ (z : Header). z.after) (ok_same _ h e) in
-    let x = sized_even B w (suc g) (q + id_width c) s si in
-    let y = (aligned_is w (cond (eqb (suc g) 0) 0 8) p q B al).0 in
-    let y' : (p + 7) / 8 * 8 ≡ q = subst (λ b. next_multiple (cond b 0 8) p ≡ q) (eqb-suc-zero g) y in
-    omega arith
-  where
-    Goal : Type 0
-    Goal = h.after % 8 ≡ 0
-
 -- the reading stands at q, the last item's bits end at p: nothing lies between but skipped bits up to the next byte
 pub data Idle (B : List Bool) (p : ℕ) : ℕ → Type 0 where
   here : {q : ℕ} → q ≡ p → Idle B p q
@@ -119,10 +80,10 @@ idle_ahead B p q (skipped e z) = omega arith
 
 idle_aligned : (B : List Bool) (w : Window) (p q r : ℕ) → Idle B p q → aligned B w 8 q ≡ Ok r → Idle B p r
 idle_aligned B w p q r (here f) e =
-    let x : (q + 7) / 8 * 8 ≡ r = (aligned_is w 8 q r B e).0 in
+    let x : (q + 7) / 8 * 8 ≡ r = (aligned_facts B w 8 q r e).is in
     skipped (sym x ∙ ap (λ k. (k + 7) / 8 * 8) f) (subst (λ k. Zeros B k r) f (aligned_skips w 8 q r B e))
 idle_aligned B w p q r (skipped f z) e =
-    let x : (q + 7) / 8 * 8 ≡ r = (aligned_is w 8 q r B e).0 in
+    let x : (q + 7) / 8 * 8 ≡ r = (aligned_facts B w 8 q r e).is in
     let y : q ≡ r = omega arith in
     skipped (omega arith) (λ k u v. z k u (omega arith))
 
@@ -163,7 +124,7 @@ module _ (d : Description) (B : List Bool) where
   neat_value o line index g p h = record { known = h; near = λ x. absurd x; zeros = λ x. absurd x }
 
   module _ (o : Object) (named : o.class ≡ 0 → ⊥) (fits : o.window.end ≤ length B) where
-    pub tidied_elements : (line : ℕ) (l : ReadLine) → Tells d (reads l) line → (n index : ℕ) (s : State) (p : ℕ) → s.place ≤ o.window.end → Idle B p s.place →
+    pub tidied_elements : (line : ℕ) (l : ReadLine) → Tells d (Read l) line → (n index : ℕ) (s : State) (p : ℕ) → s.place ≤ o.window.end → Idle B p s.place →
         Tidied (At o.window.end) p (elements d B o line l n index s) (elements d B o line l n index s)
     unfolding elements
     tidied_elements line l ok zero index s p h i = passes (ends (i, h))
@@ -177,7 +138,7 @@ module _ (d : Description) (B : List Bool) where
     module _ (tidy plain : Objects)
         (objs : (line declared index : ℕ) (w : Window) (q p : ℕ) → declared_at d line ≡ declared → q ≤ w.end → w.end ≤ length B → Idle B p q →
         Tidied (At w.end) p (tidy line declared index w q) (plain line declared index w q)) where
-      pub tidied_objects : (line : ℕ) (l : UseLine) → Tells d (uses l) line → (n index : ℕ) (s : State) (p : ℕ) → s.place ≤ o.window.end → Idle B p s.place →
+      pub tidied_objects : (line : ℕ) (l : UseLine) → Tells d (Use l) line → (n index : ℕ) (s : State) (p : ℕ) → s.place ≤ o.window.end → Idle B p s.place →
           Tidied (At o.window.end) p (objects d B tidy o line l n index s) (objects d B plain o line l n index s)
       unfolding objects
       tidied_objects line l ok zero index s p h i = passes (ends (i, h))
@@ -188,7 +149,7 @@ module _ (d : Description) (B : List Bool) where
           Tidied (At o.window.end) p (enough_objects d B line l index s) (enough_objects d B line l index s)
       tidied_enough line l index s p h i = tidied_attempt line s.place _ _ _ λ u e. passes (ends (i, h))
 
-      pub tidied_to_end : (line : ℕ) (l : UseLine) → Tells d (uses l) line → (n index : ℕ) (s : State) (p : ℕ) → s.place ≤ o.window.end → Idle B p s.place →
+      pub tidied_to_end : (line : ℕ) (l : UseLine) → Tells d (Use l) line → (n index : ℕ) (s : State) (p : ℕ) → s.place ≤ o.window.end → Idle B p s.place →
           Tidied (At o.window.end) p (objects_to_end d B tidy o line l n index s) (objects_to_end d B plain o line l n index s)
       unfolding objects_to_end
       tidied_to_end line l ok zero index s p h i = tidied_enough line l index s p h i
@@ -196,7 +157,7 @@ module _ (d : Description) (B : List Bool) where
           tidied_pick (leb o.window.end (next_multiple 8 s.place)) _ _ _ _ (tidied_enough line l index s p h i)
           (tidied_bind _ _ (λ t p m i. tidied_to_end line l ok n (suc index) (after_object l t s) p m i) (objs line l.class index o.window s.place p ok h fits i))
 
-      pub tidied_used : (line : ℕ) (l : UseLine) → Tells d (uses l) line → (k : ℕ) (s : State) (p : ℕ) → s.place ≤ o.window.end → Idle B p s.place →
+      pub tidied_used : (line : ℕ) (l : UseLine) → Tells d (Use l) line → (k : ℕ) (s : State) (p : ℕ) → s.place ≤ o.window.end → Idle B p s.place →
           Tidied (At o.window.end) p (used d B tidy o line l k s) (used d B plain o line l k s)
       unfolding used
       tidied_used line l ok zero s p h i = passes (tidied_to_end line l ok l.most 0 s p h i)
@@ -247,7 +208,7 @@ module _ (d : Description) (B : List Bool) where
         tidied_extensions (x ∷ es) s p h i =
             tidied_pick (eqb x.class o.class) _ _ _ _
             (tidied_attempt x.first s.place _ _ _ λ q e.
-            let a = aligned_facts o.window 8 s.place q B e in
+            let a = aligned_facts B o.window 8 s.place q e in
             let j = idle_aligned B o.window p s.place q i e in
             passes (tidied_pick (eqb q o.window.end) _ _ _ _ (ends (j, a.within))
             (tidied_bind _ _ (λ t p m i. tidied_extensions es t p m i)
@@ -289,12 +250,12 @@ module _ (d : Description) (B : List Bool) where
 
         neat : T (eqb (next_multiple 8 s.place) w.end && eqb (number (part B s.place (w.end - s.place))) 0) → Idle B p s.place → Neat B p close
         neat t (here f) =
-            let b = both (eqb (next_multiple 8 s.place) w.end) _ t in
+            let b = and_yes (eqb (next_multiple 8 s.place) w.end) _ t in
             let x : (s.place + 7) / 8 * 8 ≡ w.end = eqb→eq _ w.end b.0 in
             let z = number_zeros B (w.end - s.place) s.place (eqb→eq _ 0 b.1) in
             record { known = named; near = λ _. omega arith; zeros = λ _ k u v. z k (omega arith) (omega arith) }
         neat t (skipped e y) =
-            let b = both (eqb (next_multiple 8 s.place) w.end) _ t in
+            let b = and_yes (eqb (next_multiple 8 s.place) w.end) _ t in
             let x : (s.place + 7) / 8 * 8 ≡ w.end = eqb→eq _ w.end b.0 in
             record { known = named; near = λ _. omega arith; zeros = λ _ k u v. y k u (omega arith) }
 
@@ -304,14 +265,14 @@ module _ (d : Description) (B : List Bool) where
             let r : w.end ≤ p + 7 = n.near tt in
             let ev = even (omega arith) in
             let x : (s.place + 7) / 8 * 8 ≡ w.end = omega arith in
-            with_both (eqb (next_multiple 8 s.place) w.end) _ (subst (λ k. T (eqb (next_multiple 8 s.place) k)) x (eqb_refl (next_multiple 8 s.place)))
+            yes_and (eqb (next_multiple 8 s.place) w.end) _ (subst (λ k. T (eqb (next_multiple 8 s.place) k)) x (eqb_refl (next_multiple 8 s.place)))
             (subst (λ k. T (eqb k 0)) (sym (zeros_number B (w.end - s.place) s.place (λ k u v. n.zeros tt k (omega arith) (omega arith)))) tt)
 
         go : (b : Bool) → (eqb (next_multiple 8 s.place) w.end && eqb (number (part B s.place (w.end - s.place))) 0) ≡ b →
             Tidied (At most) p
             (attempt line s.place (ensure b BitsLeft) λ _. out close (done (moved w.end s)))
             (out close (done (moved w.end s)))
-        go true e = shown (neat (of_true _ e) i) (λ f. omega arith) (ends (here refl, m))
+        go true e = shown (neat (subst T (sym e) tt) i) (λ f. omega arith) (ends (here refl, m))
         go false e = cut (λ n. subst T e (test n))
 
   module _ (st : Straight d) (by : Bytes d) where
@@ -351,18 +312,18 @@ module _ (d : Description) (B : List Bool) where
             (attempt line q (ensure (not b || (not true && not z)) UnknownId) λ _. opened_by d B true tidy (object_class d declared h.id) (greatest d declared) line index h w)
             (attempt line q (ensure (not b || (not false && not z)) UnknownId) λ _. opened_by d B false plain (object_class d declared h.id) (greatest d declared) line index h w)
         go h e true true x y = stops
-        go h e true false x y = cut (λ n. n.known (eqb→eq _ 0 (of_true _ x)))
+        go h e true false x y = cut (λ n. n.known (eqb-true _ 0 x))
         go h e false z x y =
             let c = object_class d declared h.id in
             let g = greatest d declared in
             let named : c ≡ 0 → ⊥ = λ r. subst T x (subst (λ k. T (eqb k 0)) (sym r) tt) in
             let a = header_again w (class_at d declared) g q h B e in
-            let f = header-after w (class_at d declared) g q h B e in
-            let n = inner_facts d 0 B g h w f.1 in
+            let f = header_facts B w (class_at d declared) g q h e in
+            let n = inner_facts d B g h w f.within in
             let o : Object = record { class = c; size = h.size; window = inner d B g h w } in
             shown (record { known = named; near = λ x. absurd x; zeros = λ x. absurd x })
             (λ fits. ends_at h e fits)
-            (tidied_bind _ _ (λ s r m j. tidied_closing c line index named o.window s r w.end m n.1 j g (λ l. inner_even g h l (header_even B w (class_at d declared) g q h l (by declared l) e)))
+            (tidied_bind _ _ (λ s r m j. tidied_closing c line index named o.window s r w.end m n.1 j g (λ l. inner_even g h l (let end = f.ends l (by declared l) in omega arith)))
             (tidied_content o named (omega (arith, n.1)) tidy plain objs st c (record { place = h.after; names = all_zero }) h.after n.0 (here refl)))
 
     pub tidied_object : (n line declared index : ℕ) (w : Window) (q p : ℕ) → declared_at d line ≡ declared → q ≤ w.end → w.end ≤ length B → Idle B p q →

@@ -1,12 +1,14 @@
 -- A writing, put by put: what lies ahead of it, over any bits that begin with what is written.
 use Rattle.std.proofs.Common.{◌≡◌, ℕ, ◌-◌, ◌≤◌, Bool, false, ◌⊎◌, List, [], ◌∷◌, ◌++◌, length, drop, replicate, sym, refl, ap, ◌∙◌, subst, inl, inr, append_assoc, arith, length-append}
+use Rattle.std.proofs.lemmas.List.{append-nil, append_cancel_left}
+use Rattle.roundtrip.proofs.Heads.{halted_gives, halted_ends}
 use lib.ListN.{length-replicate}
 use Rattle.rules.specs.declared.items.Item.{Item}
 use Rattle.rules.specs.Trace.{Run, out, pass, stop, done, items, outcome, ended}
 use Rattle.table.specs.Description.{Description}
 use Rattle.rules.specs.Tidy.{reading_by}
 use Rattle.roundtrip.specs.Own.{own_bits, end_of, pending, Sensible}
-use Rattle.roundtrip.specs.Standing.{Head, gives, halts, ends, head, Halted, Fam, Zeros, Fits, Leads, here, next, Stands, stuck, quiet, hands}
+use Rattle.roundtrip.specs.Standing.{gives, ends, head, Halted, Fam, Zeros, Fits, Leads, here, next, Stands, stuck, quiet, hands}
 use Rattle.roundtrip.specs.Writing.{Straight, CanFollow, Written, fresh, put, Writes, WritingLaw, appended, Ahead, Tests, TestLaw}
 use Rattle.rules.specs.Growth.{Begins}
 use Rattle.roundtrip.proofs.Lifted.{standing_law}
@@ -45,14 +47,10 @@ pub leads_outcome : {A : Type 0} {is : List Item} {t u : Run A} → Leads is t u
 leads_outcome here = refl
 leads_outcome (next {i} {is} {t} {r} {u} e l) = outcome-head t i r e ∙ leads_outcome l
 
-same_tail : (is xs ys : List Item) → is ++ xs ≡ is ++ ys → xs ≡ ys
-same_tail [] xs ys e = e
-same_tail (i ∷ is) xs ys e = same_tail is xs ys (let q : is ++ xs ≡ is ++ ys = cc in q)
-
 -- what is handed out after the first items
 pub head-after : {A : Type 0} (is : List Item) (t u : Run A) (i : Item) → Leads is t u → Begins (is ++ (i ∷ [])) (items t) → (r : Run A) × (head u ≡ gives i r)
 head-after is t u i l (zs, e) =
-    head-items u i zs (same_tail is (items u) (i ∷ zs) (sym (leads_items l) ∙ e ∙ append_assoc is (i ∷ []) zs))
+    head-items u i zs (append_cancel_left is (items u) (i ∷ zs) (sym (leads_items l) ∙ e ∙ append_assoc is (i ∷ []) zs))
 
 -- how a run that hands out no more ends
 pub ends-head : (t : Run (Unit {0})) → items t ≡ [] → outcome t ≡ ended → head t ≡ ends tt
@@ -69,24 +67,6 @@ head-ends (pass t) e = head-ends t e
 head-ends (stop f) e = let y : ◌≡◌ {A = ℕ} 0 1 = cc in let z : ⊥ = omega arith in absurd z
 head-ends (done a) e = (refl, refl)
 
-pub empty_tail : (is xs : List Item) → is ++ xs ≡ is → xs ≡ []
-empty_tail [] xs e = e
-empty_tail (i ∷ is) xs e = empty_tail is xs (let q : is ++ xs ≡ is = cc in q)
-
-pub append_none : {A : Type 0} (xs : List A) → xs ++ [] ≡ xs
-append_none [] = refl
-append_none (x ∷ xs) = ap (λ z. x ∷ z) (append_none xs)
-
-halted_no : {A : Type 0} (h : Head A) (i : Item) (r : Run A) → Halted h → h ≡ gives i r → ⊥
-halted_no (gives j t) i r z e = z
-halted_no (halts f) i r z e = let y : ◌≡◌ {A = ℕ} 0 1 = cc in omega arith
-halted_no (ends a) i r z e = z
-
-halted_un : {A : Type 0} (h : Head A) (a : A) → Halted h → h ≡ ends a → ⊥
-halted_un (gives j t) a z e = z
-halted_un (halts f) a z e = let y : ◌≡◌ {A = ℕ} 0 1 = cc in omega arith
-halted_un (ends b) a z e = z
-
 module _ (d : Description) (st : Straight d) (L : ℕ) (tidy : Bool) where
   -- an item that is handed out over some bits
   pub record Put (p : ℕ) (F : Fam (Unit {0})) (i : Item) : Type 0 where
@@ -98,11 +78,11 @@ module _ (d : Description) (st : Straight d) (L : ℕ) (tidy : Bool) where
     pub stands : Stands d L (λ (u : Unit {0}). L) L (end_of d i) then
 
   puts : {p : ℕ} (F : Fam (Unit {0})) → Stands d L (λ (u : Unit {0}). L) L p F → (B : List Bool) (i : Item) (r : Run (Unit {0})) → length B ≡ L → head (F B) ≡ gives i r → Put p F i
-  puts F (stuck s) B i r l e = absurd (halted_no (head (F B)) i r (s B l) e)
+  puts F (stuck s) B i r l e = absurd (halted_gives (head (F B)) i r (s B l) e)
   puts {p} F (quiet a le m any ok) B i r l e = go (any B l)
     where
       go : (Halted (head (F B)) ⊎ (head (F B) ≡ ends a)) → Put p F i
-      go (inl z) = absurd (halted_no (head (F B)) i r z e)
+      go (inl z) = absurd (halted_gives (head (F B)) i r z e)
       go (inr q) = let y : ◌≡◌ {A = ℕ} 0 1 = cc in let z : ⊥ = omega arith in absurd z
   puts F (hands K nev step rest) B i r l e =
       let s = step B i r l e in
@@ -110,7 +90,7 @@ module _ (d : Description) (st : Straight d) (L : ℕ) (tidy : Bool) where
 
   finishes : {p : ℕ} (F : Fam (Unit {0})) → Stands d L (λ (u : Unit {0}). L) L p F → (B : List Bool) → length B ≡ L → head (F B) ≡ ends tt →
       (C : List Bool) → length C ≡ L → Zeros C p L → head (F C) ≡ ends tt
-  finishes F (stuck s) B l e C m z = absurd (halted_un (head (F B)) tt (s B l) e)
+  finishes F (stuck s) B l e C m z = absurd (halted_ends (head (F B)) tt (s B l) e)
   finishes F (quiet a le n any ok) B l e C m z = ok C m z
   finishes F (hands K nev step rest) B l e C m z = absurd (nev B l tt e)
 
@@ -179,10 +159,10 @@ module _ (d : Description) (st : Straight d) (L : ℕ) (tidy : Bool) where
             let s = R.short in
             let long : length C ≡ L = omega arith in
             let h : head (F B) ≡ ends tt =
-            ends-head (F B) (empty_tail is (items (F B)) (sym (leads_items (R.leads B l b)) ∙ e)) (sym (leads_outcome (R.leads B l b)) ∙ o) in
+            ends-head (F B) (append_cancel_left is (items (F B)) [] (sym (leads_items (R.leads B l b)) ∙ e ∙ sym (append-nil is))) (sym (leads_outcome (R.leads B l b)) ∙ o) in
             let g = head-ends (F C) (finishes F R.stands B l h C long (zeros_after w (L - length w) L (omega arith))) in
             let m = R.leads C long (replicate (L - length w) false, refl) in
-            (leads_items m ∙ ap (λ z. is ++ z) g.0 ∙ append_none is, leads_outcome m ∙ g.1);
+            (leads_items m ∙ ap (λ z. is ++ z) g.0 ∙ append-nil is, leads_outcome m ∙ g.1);
       }
 
 pub writing_law : WritingLaw

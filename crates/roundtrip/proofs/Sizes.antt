@@ -1,5 +1,8 @@
 -- An object's beginning: the id, and a size in the fewest bytes.
-use Rattle.std.proofs.Common.{◌≡◌, ℕ, zero, suc, ◌+◌, ◌*◌, ◌/◌, ◌%◌, ◌^◌, ◌<◌, ◌≤◌, Bool, true, false, cond, not, T, eqb, ltb, leb, List, [], ◌++◌, length, Ok, refl, ap, ◌∙◌, subst, arith, le→leb, ltb→lt, lt→ltb, leb→le, nltb→le, length-append}
+use Rattle.std.proofs.Common.{◌≡◌, ℕ, zero, suc, ◌+◌, ◌*◌, ◌/◌, ◌%◌, ◌^◌, ◌<◌, ◌≤◌, Bool, true, false, cond, T, eqb, ltb, leb, List, [], ◌++◌, length, Ok, refl, ap, ◌∙◌, subst, arith, le→leb, ltb→lt, leb→le, nltb→le, length-append}
+use Rattle.std.proofs.lemmas.Bool.{lt-ltb, ltb-true, le-ltb}
+use Rattle.rules.proofs.Booleans.{pick_is}
+use Rattle.rules.proofs.Facts.{ensure_ok, via, ok_same, aligned_facts, taken_facts}
 use Rattle.records.specs.declared.records.Class.{Class}
 use Rattle.rules.specs.Checks.{pick}
 use Rattle.bits.specs.Bits.{bits_of, length-bits_of}
@@ -9,8 +12,8 @@ use Rattle.rules.specs.Steps.{aligned, taken, size_bytes, sized, header}
 use Rattle.roundtrip.specs.Own.{size_code, size_bits, header_bits}
 use Rattle.rules.specs.Steps.{id_width}
 use Rattle.roundtrip.specs.Standing.{Zeros, Has}
-use Rattle.roundtrip.proofs.Numbers.{true_of, of_true, has_append}
-use Rattle.roundtrip.proofs.Again.{then_to, ensure_ok, to_ensure, via, ok_same, aligned_facts, aligned_again, taken_facts, taken_has}
+use Rattle.roundtrip.proofs.Numbers.{has_append}
+use Rattle.roundtrip.proofs.Again.{then_to, to_ensure, aligned_again, taken_has}
 
 -- the forms of a size
 data CodeOf (s : ℕ) : List Bool → Type 0 where
@@ -18,10 +21,6 @@ data CodeOf (s : ℕ) : List Bool → Type 0 where
   two : 128 ≤ s → s < 16384 → CodeOf s (bits_of 8 (128 + s / 128) ++ bits_of 8 (s % 128))
   three : 16384 ≤ s → s < 2097152 → CodeOf s (bits_of 8 (128 + s / 16384) ++ (bits_of 8 (128 + s / 128 % 128) ++ bits_of 8 (s % 128)))
   four : 2097152 ≤ s → CodeOf s (bits_of 8 (128 + s / 2097152) ++ (bits_of 8 (128 + s / 16384 % 128) ++ (bits_of 8 (128 + s / 128 % 128) ++ bits_of 8 (s % 128))))
-
-pick_is : {A : Type 0} (P : A → Type 0) (b : Bool) (x y : Unit {0} → A) → (T b → P (x tt)) → (T (not b) → P (y tt)) → P (pick b x y)
-pick_is P true x y f g = f tt
-pick_is P false x y f g = g tt
 
 code_of : (s : ℕ) → CodeOf s (size_code s)
 unfolding size_code
@@ -40,16 +39,12 @@ module _ (B : List Bool) (w : Window) where
   last_byte : (m high p b : ℕ) → taken B w 8 p ≡ Ok b → b < 128 → size_bytes B w (suc m) high p ≡ Ok (high * 128 + b, p + 8)
   unfolding size_bytes
   last_byte m high p b e l =
-      then_to _ _ b e ∙ ap (λ t. pick t (λ _. Ok (high * 128 + b, p + 8)) (λ _. size_bytes B w m (high * 128 + b % 128) (p + 8))) (true_of (ltb b 128) (lt→ltb b 128 l))
+      then_to _ _ b e ∙ ap (λ t. pick t (λ _. Ok (high * 128 + b, p + 8)) (λ _. size_bytes B w m (high * 128 + b % 128) (p + 8))) (lt-ltb b 128 l)
 
   more_bytes : (m high p b : ℕ) → taken B w 8 p ≡ Ok b → 128 ≤ b → size_bytes B w (suc m) high p ≡ size_bytes B w m (high * 128 + b % 128) (p + 8)
   unfolding size_bytes
   more_bytes m high p b e l =
-      then_to _ _ b e ∙ ap (λ t. pick t (λ _. Ok (high * 128 + b, p + 8)) (λ _. size_bytes B w m (high * 128 + b % 128) (p + 8))) (go (ltb b 128) refl)
-    where
-      go : (t : Bool) → ltb b 128 ≡ t → ltb b 128 ≡ false
-      go true q = let z = ltb→lt b 128 (of_true (ltb b 128) q) in let y : ⊥ = omega arith in absurd y
-      go false q = q
+      then_to _ _ b e ∙ ap (λ t. pick t (λ _. Ok (high * 128 + b, p + 8)) (λ _. size_bytes B w m (high * 128 + b % 128) (p + 8))) (le-ltb b 128 l)
 
   pub byte_cases : (P : Type 0) (m high p : ℕ) (r : ℕ × ℕ) → size_bytes B w (suc m) high p ≡ Ok r →
       ((b : ℕ) → b < 128 → p + 8 ≤ w.end → (high * 128 + b, p + 8) ≡ r → P) →
@@ -57,12 +52,12 @@ module _ (B : List Bool) (w : Window) where
   unfolding size_bytes
   byte_cases P m high p r e f g =
       via P _ _ r e λ b ta e.
-      let t = taken_facts w 8 p B b ta in
+      let t = taken_facts B w 8 p b ta in
       go b t.0 (ltb b 128) refl e
     where
       go : (b : ℕ) → p + 8 ≤ w.end → (t : Bool) → ltb b 128 ≡ t →
           pick t (λ _. Ok (high * 128 + b, p + 8)) (λ _. size_bytes B w m (high * 128 + b % 128) (p + 8)) ≡ Ok r → P
-      go b l true q e = f b (ltb→lt b 128 (of_true (ltb b 128) q)) l (ok_same _ r e)
+      go b l true q e = f b (ltb-true b 128 q) l (ok_same _ r e)
       go b l false q e = g (b % 128) (omega arith) l e
 
   pub never : (high p : ℕ) (r : ℕ × ℕ) → size_bytes B w 0 high p ≡ Ok r → ⊥
@@ -207,8 +202,8 @@ header_again w c greatest p h B e =
     known : (q id : ℕ) (s : ℕ × ℕ) → aligned B w (cond (eqb greatest 0) 0 8) p ≡ Ok q → taken B w (id_width c) q ≡ Ok id → sized B w greatest (q + id_width c) ≡ Ok s →
         HeaderAgain w c greatest p (record { id = id; size = s.0; place = q; after = s.1 })
     known q id s al ta si =
-        let a = aligned_facts w _ p q B al in
-        let t = taken_facts w (id_width c) q B id ta in
+        let a = aligned_facts B w _ p q al in
+        let t = taken_facts B w (id_width c) q id ta in
         let z = sized_again w greatest (q + id_width c) s B t.0 si in
         let e₁ = length-append (bits_of (id_width c) id) (size_bits greatest s.0) in
         let e₂ = length-bits_of (id_width c) id in

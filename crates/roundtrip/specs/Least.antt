@@ -1,7 +1,7 @@
 -- An item's own bits are the least that give it, and a step looks only at the bits up to where it ends.
 use Rattle.std.specs.Prelude.{◌≡◌, ℕ, ◌+◌, ◌^◌, ◌<◌, ◌≤◌, Bool, false, List, length, ℤ, Ok, slice_index_or}
 use Rattle.records.specs.declared.records.Class.{Class}
-use Rattle.rules.specs.declared.lines.ReadLine.{ReadLine}
+use Rattle.records.specs.declared.statements.ReadLine.{ReadLine}
 use Rattle.rules.specs.Checks.{Check}
 use Rattle.rules.specs.declared.steps.Window.{Window}
 use Rattle.rules.specs.declared.steps.Got.{Got}

@@ -52,10 +52,10 @@ header_bits c greatest id size = bits_of (id_width c) id ++ size_bits greatest s
 
 -- the bits of a value that a line reads; of a map the lowest index with that output
 unfoldable pub value_bits : Description → Statement → (value : ℤ) → (length : ℕ) → List Bool
-value_bits d (Read signed width name count alignment ahead lowest highest) v n = bits_of n (complement n v)
+value_bits d (Read fields) v n = bits_of n (complement n v)
 value_bits d (Assign name node) v n = []
 value_bits d (MapRead m name) v n = bits_of (map_at d m).width (lowest_index (map_at d m).width (map_output d m) v)
-value_bits d (Use class count least most carried receiving) v n = []
+value_bits d (Use fields) v n = []
 value_bits d (If node first second) v n = []
 value_bits d (While node lines rounds) v n = []
 value_bits d Unknown v n = []
@@ -79,10 +79,10 @@ pending d L i = take L (replicate i.place false ++ (own_bits d i ++ replicate L 
 
 -- an item whose numbers some reading could hand out, as far as they stand in its own bits
 unfoldable pub SensibleValue : Description → Statement → (value : ℤ) → (length : ℕ) → Type 0
-SensibleValue d (Read signed width name count alignment ahead lowest highest) v n = (n ≤ 32) × (complement n v < 2 ^ n)
+SensibleValue d (Read fields) v n = (n ≤ 32) × (complement n v < 2 ^ n)
 SensibleValue d (Assign name node) v n = ⊥
 SensibleValue d (MapRead m name) v n = lowest_index (map_at d m).width (map_output d m) v < 2 ^ (map_at d m).width
-SensibleValue d (Use class count least most carried receiving) v n = ⊥
+SensibleValue d (Use fields) v n = ⊥
 SensibleValue d (If node first second) v n = ⊥
 SensibleValue d (While node lines rounds) v n = ⊥
 SensibleValue d Unknown v n = ⊥

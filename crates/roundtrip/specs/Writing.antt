@@ -14,10 +14,10 @@ use Rattle.roundtrip.specs.Standing.{head, gives, Fam, Fits, Leads, Stands}
 
 -- above 0 where a line looks ahead
 abbrev pub looks_ahead : Statement → ℕ
-looks_ahead (Read signed width name count alignment ahead lowest highest) = ahead
+looks_ahead (Read fields) = fields.ahead
 looks_ahead (Assign name node) = 0
 looks_ahead (MapRead m name) = 0
-looks_ahead (Use class count least most carried receiving) = 0
+looks_ahead (Use fields) = 0
 looks_ahead (If node first second) = 0
 looks_ahead (While node lines rounds) = 0
 looks_ahead Unknown = 0

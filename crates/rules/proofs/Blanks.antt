@@ -1,31 +1,27 @@
 -- Of a run of hidden lines nothing is left, and it writes only new names where it stands in an older object.
-use Rattle.std.proofs.Common.{◌≡◌, ℕ, zero, suc, ◌<◌, ◌≤◌, Bool, true, false, cond, T, eqb, leb, ◌⊎◌, List, [], ◌∷◌, length, ℤ, sym, refl, ap, ◌∙◌, subst, inl, inr, arith, eqb→eq}
+use Rattle.std.proofs.Common.{◌≡◌, ℕ, zero, suc, ◌<◌, ◌≤◌, Bool, false, cond, T, eqb, leb, ◌⊎◌, List, [], ◌∷◌, length, ℤ, ap, ◌∙◌, inl, inr, arith}
+use Rattle.std.proofs.lemmas.Bool.{ne_eqb}
+use Rattle.checked.proofs.Sounds.{all_of}
+use Rattle.records.specs.Statements.{written}
 use Rattle.records.specs.declared.records.Extension.{Extension}
 use Rattle.rules.specs.Trace.{Run}
 use Rattle.rules.specs.Checks.{Check}
-use Rattle.table.specs.Description.{Description}
+use Rattle.table.specs.Description.{Description, no_extension}
 use Rattle.rules.specs.Values.{Names, is_zero}
 use Rattle.rules.specs.declared.steps.Header.{Header}
 use Rattle.rules.specs.declared.steps.Window.{Window}
 use Rattle.rules.specs.Steps.{next_multiple}
 use Rattle.records.specs.declared.statements.Statement.{Statement}
-use Rattle.records.specs.declared.statements.Statement.TheVariants.{Assign, MapRead, If, While}
-use Rattle.rules.specs.declared.lines.UseLine.{UseLine}
-use Rattle.rules.specs.declared.lines.ReadLine.{ReadLine}
-use Rattle.rules.specs.Code.{Code, finish, read, assign, map_read, use_of, branch, while, written, code}
+use Rattle.records.specs.declared.statements.Statement.TheVariants.{Assign, MapRead, If, While, Read, Use}
+use Rattle.records.specs.declared.statements.UseLine.{UseLine}
+use Rattle.records.specs.declared.statements.ReadLine.{ReadLine}
+use Rattle.rules.specs.Code.{Code, finish, read, assign, map_read, use_of, branch, while, code}
 use Rattle.rules.specs.Reading.{State, Object, Objects, write, moved, after_read, after_object, elements, objects, enough_objects, objects_to_end, used, rounds, run, extensions, content, all_zero}
 use Rattle.rules.specs.Tidy.{opened_by, object_by}
 use Rattle.checked.specs.Sound.{All}
 use Rattle.rules.proofs.Follow.{Hidden, Blank, ends, refuses, hidden, quiet, blank_bind, blank_attempt, blank_pick}
 use Rattle.rules.proofs.Struck.{hide_value, hide_open, open_deeper, hide_close, value_deeper, close_deeper}
-use Rattle.rules.proofs.Same.{reads, uses, Each, each_all}
-
-pub unequal : (m n : ℕ) → m < n → eqb m n ≡ false
-unequal m n h = go (eqb m n) refl
-  where
-    go : (b : Bool) → eqb m n ≡ b → eqb m n ≡ false
-    go true e = let z : m ≡ n = eqb→eq m n (subst T (sym e) tt) in let y : ⊥ = omega arith in absurd y
-    go false e = e
+use Rattle.rules.proofs.Same.{Each, each_all}
 
 module _ (older : Description) where
   -- a line that is hidden at a depth: below 0 by its number, and then it writes no older name
@@ -44,7 +40,7 @@ module _ (older : Description) where
       ((m : ℕ) → m ≤ length older.names → names m ≡ was m) → (m : ℕ) → m ≤ length older.names → write x v names m ≡ was m
   write_new zero v names was n h m l = h m l
   write_new (suc x) v names was (inl e) h m l = let y : ⊥ = omega arith in absurd y
-  write_new (suc x) v names was (inr n) h m l = ap (λ b. cond b v (names m)) (unequal m (suc x) (omega arith)) ∙ h m l
+  write_new (suc x) v names was (inr n) h m l = ap (λ b. cond b v (names m)) (ne_eqb m (suc x) (λ e. omega arith)) ∙ h m l
 
   write_kept : (k : ℕ) (st : Statement) (line : ℕ) → HiddenLine k st line → (was : Names) (s : State) → Kept k was s → (p : ℕ) (v : ℤ) →
       Kept k was (record { place = p; names = write (written st) v s.names })
@@ -57,46 +53,46 @@ module _ (older : Description) where
     abbrev pub BlankObjects : Objects → Type 0
     BlankObjects obj = (line declared index : ℕ) (w : Window) (p : ℕ) → Hidden older k line → Blank older (λ (t : State). Unit {0}) k k (obj line declared index w p)
 
-    blank_elements : (o : Object) (line : ℕ) (l : ReadLine) → HiddenLine k (reads l) line → (was : Names) (n index : ℕ) (s : State) → Kept k was s →
+    blank_elements : (o : Object) (line : ℕ) (l : ReadLine) → HiddenLine k (Read l) line → (was : Names) (n index : ℕ) (s : State) → Kept k was s →
         Blank older (Kept k was) k k (elements d bits o line l n index s)
     unfolding elements
     blank_elements o line l hid was zero index s kept = quiet (ends kept)
     blank_elements o line l hid was (suc n) index s kept =
-        blank_attempt older k line s.place (line_hidden k (reads l) line hid) _ _ λ g.
-        hidden (hide_value older k line (line_hidden k (reads l) line hid) o index g) (value_deeper older k o line index g)
-        (blank_elements o line l hid was n (suc index) (after_read l.name g s) (write_kept k (reads l) line hid was s kept g.after g.value))
+        blank_attempt older k line s.place (line_hidden k (Read l) line hid) _ _ λ g.
+        hidden (hide_value older k line (line_hidden k (Read l) line hid) o index g) (value_deeper older k o line index g)
+        (blank_elements o line l hid was n (suc index) (after_read l.name g s) (write_kept k (Read l) line hid was s kept g.after g.value))
 
     module _ (obj : Objects) (blank : BlankObjects obj) (o : Object) where
-      blank_objects : (line : ℕ) (l : UseLine) → HiddenLine k (uses l) line → (was : Names) (n index : ℕ) (s : State) → Kept k was s →
+      blank_objects : (line : ℕ) (l : UseLine) → HiddenLine k (Use l) line → (was : Names) (n index : ℕ) (s : State) → Kept k was s →
           Blank older (Kept k was) k k (objects d bits obj o line l n index s)
       unfolding objects
       blank_objects line l hid was zero index s kept = quiet (ends kept)
       blank_objects line l hid was (suc n) index s kept =
           blank_bind older _
-          (λ t u. blank_objects line l hid was n (suc index) (after_object l t s) (write_kept k (uses l) line hid was s kept t.place (t.names l.carried)))
-          (blank line l.class index o.window s.place (line_hidden k (uses l) line hid))
+          (λ t u. blank_objects line l hid was n (suc index) (after_object l t s) (write_kept k (Use l) line hid was s kept t.place (t.names l.carried)))
+          (blank line l.class index o.window s.place (line_hidden k (Use l) line hid))
 
-      blank_enough : (line : ℕ) (l : UseLine) → HiddenLine k (uses l) line → (was : Names) (index : ℕ) (s : State) → Kept k was s →
+      blank_enough : (line : ℕ) (l : UseLine) → HiddenLine k (Use l) line → (was : Names) (index : ℕ) (s : State) → Kept k was s →
           Blank older (Kept k was) k k (enough_objects d bits line l index s)
       blank_enough line l hid was index s kept =
-          blank_attempt older k line s.place (line_hidden k (uses l) line hid) _ _ λ u. quiet (ends kept)
+          blank_attempt older k line s.place (line_hidden k (Use l) line hid) _ _ λ u. quiet (ends kept)
 
-      blank_objects_to_end : (line : ℕ) (l : UseLine) → HiddenLine k (uses l) line → (was : Names) (n index : ℕ) (s : State) → Kept k was s →
+      blank_objects_to_end : (line : ℕ) (l : UseLine) → HiddenLine k (Use l) line → (was : Names) (n index : ℕ) (s : State) → Kept k was s →
           Blank older (Kept k was) k k (objects_to_end d bits obj o line l n index s)
       unfolding objects_to_end
       blank_objects_to_end line l hid was zero index s kept = blank_enough line l hid was index s kept
       blank_objects_to_end line l hid was (suc n) index s kept =
           blank_pick older (leb o.window.end (next_multiple 8 s.place)) _ _ (λ t. blank_enough line l hid was index s kept) λ t.
           blank_bind older _
-          (λ t u. blank_objects_to_end line l hid was n (suc index) (after_object l t s) (write_kept k (uses l) line hid was s kept t.place (t.names l.carried)))
-          (blank line l.class index o.window s.place (line_hidden k (uses l) line hid))
+          (λ t u. blank_objects_to_end line l hid was n (suc index) (after_object l t s) (write_kept k (Use l) line hid was s kept t.place (t.names l.carried)))
+          (blank line l.class index o.window s.place (line_hidden k (Use l) line hid))
 
-      blank_used : (line : ℕ) (l : UseLine) → HiddenLine k (uses l) line → (was : Names) (n : ℕ) (s : State) → Kept k was s →
+      blank_used : (line : ℕ) (l : UseLine) → HiddenLine k (Use l) line → (was : Names) (n : ℕ) (s : State) → Kept k was s →
           Blank older (Kept k was) k k (used d bits obj o line l n s)
       unfolding used
       blank_used line l hid was zero s kept = quiet (blank_objects_to_end line l hid was l.most 0 s kept)
       blank_used line l hid was (suc n) s kept =
-          blank_attempt older k line s.place (line_hidden k (uses l) line hid) _ _ λ m. quiet (blank_objects line l hid was m 0 s kept)
+          blank_attempt older k line s.place (line_hidden k (Use l) line hid) _ _ λ m. quiet (blank_objects line l hid was m 0 s kept)
 
       blank_rounds : (test : State → Check ℤ) (body : State → Run State) (line : ℕ) → Hidden older k line → (was : Names) →
           ((s : State) → Kept k was s → Blank older (Kept k was) k k (body s)) → (n : ℕ) (s : State) → Kept k was s →
@@ -112,7 +108,7 @@ module _ (older : Description) where
       unfolding run
       blank_run was finish e s kept = quiet (ends kept)
       blank_run was (read line l c) e s kept =
-          blank_attempt older k line s.place (line_hidden k (reads l) line e.0) _ _ λ n.
+          blank_attempt older k line s.place (line_hidden k (Read l) line e.0) _ _ λ n.
           quiet (blank_bind older _ (λ t kept'. blank_run was c e.1 t kept') (blank_elements o line l e.0 was n 0 s kept))
       blank_run was (assign line name node c) e s kept =
           blank_attempt older k line s.place (line_hidden k (Assign name node) line e.0) _ _ λ v.
@@ -153,10 +149,6 @@ module _ (older : Description) where
       (blank_run d bits k obj blank o was (code d.lines e.first e.number) a.0.1 (moved q s) held.0))))
       (λ t. quiet (blank_extensions d bits k obj blank o was g p es a.1 s held))
 
-  pub all_all : {A : Type 0} (P : A → Type 0) → ((x : A) → P x) → (xs : List A) → All P xs
-  all_all P h [] = tt
-  all_all P h (x ∷ xs) = (h x, all_all P h xs)
-
   -- inside what is struck nothing is left
   pub blank_content : (d : Description) (bits : List Bool) (k : ℕ) → 0 < k → (obj : Objects) → BlankObjects d bits k obj → (o : Object) (c : ℕ) (s : State) →
       Blank older (Held k all_zero 0 0) k k (content d bits obj o c s)
@@ -166,7 +158,7 @@ module _ (older : Description) where
       blank_bind older _
       (λ t kept. blank_bind older _
       (λ u kept'. blank_extensions d bits k obj blank o all_zero 0 0 d.extensions
-      (all_all _ (λ e. (inl h, each_all (HiddenLine k) (λ st line. inl h) _, λ t. inl h)) d.extensions) u (inl h, inl (inl h)))
+      (all_of _ no_extension d.extensions (λ n x y. (inl h, each_all (HiddenLine k) (λ st line. inl h) _, λ t. inl h))) u (inl h, inl (inl h)))
       (blank_run d bits k obj blank o all_zero _ (each_all (HiddenLine k) (λ st line. inl h) _) t (inl h)))
       (blank_run d bits k obj blank o all_zero _ (each_all (HiddenLine k) (λ st line. inl h) _) s (inl h))
 

@@ -1,5 +1,6 @@
 -- The class of an object by the older and by the newer description.
 use Rattle.std.proofs.Common.{◌≡◌, ℕ, zero, suc, ◌+◌, ◌<◌, ◌≤◌, Bool, true, false, cond, not, ◌&&◌, T, eqb, ◌⊎◌, List, [], ◌∷◌, ◌++◌, length, get_or, sym, refl, ap, ◌∙◌, subst, inl, inr, arith, eqb→eq}
+use Rattle.std.proofs.Math.Facts.{and_yes}
 use Rattle.records.specs.declared.records.Class.{Class}
 use Rattle.records.specs.Classes.{is_base, is_member}
 use Rattle.table.specs.Description.{Description, entry, no_class, class_at}
@@ -8,20 +9,12 @@ use Rattle.rules.specs.Growth.{Grown}
 use Rattle.checked.specs.Sound.{All}
 use Rattle.rules.proofs.Same.{class_same}
 
-and_left : (a b : Bool) → T (a && b) → T a
-and_left true b t = tt
-and_left false b t = t
-
-and_right : (a b : Bool) → T (a && b) → T b
-and_right true b t = t
-and_right false b t = absurd t
-
 pub member_kind : (b id : ℕ) (c : Class) → T (member_with b id c) → T (is_member c)
-member_kind b id c m = and_left (is_member c) (eqb c.base b) (and_left (is_member c && eqb c.base b) (has_id id c) m)
+member_kind b id c m = (and_yes (is_member c) (eqb c.base b) (and_yes (is_member c && eqb c.base b) (has_id id c) m).0).0
 
 pub member_base : (b id : ℕ) (c : Class) → T (member_with b id c) → c.base ≡ b
 member_base b id c m =
-    eqb→eq c.base b (and_right (is_member c) (eqb c.base b) (and_left (is_member c && eqb c.base b) (has_id id c) m))
+    eqb→eq c.base b (and_yes (is_member c) (eqb c.base b) (and_yes (is_member c && eqb c.base b) (has_id id c) m).0).1
 
 -- the first of two lists' finds, the first list's length given
 join : ℕ → ℕ → ℕ → ℕ

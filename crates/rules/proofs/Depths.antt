@@ -1,5 +1,6 @@
 -- Striking never leads deeper than the objects that are open.
-use Rattle.std.proofs.Common.{◌≡◌, ℕ, zero, suc, pred, ◌≤◌, Bool, true, false, cond, ◌||◌, ltb, List, [], ◌∷◌, ◌++◌, length, ap, subst, arith}
+use Rattle.std.proofs.Common.{◌≡◌, ℕ, zero, suc, pred, ◌≤◌, ◌||◌, ltb, List, [], ◌∷◌, ◌++◌, length, ap, subst, arith}
+use Rattle.std.proofs.lemmas.Bool.{cond_both}
 use Rattle.table.specs.Description.{Description}
 use Rattle.rules.specs.declared.items.Item.{Item}
 use Rattle.rules.specs.declared.items.Kind.{Kind}
@@ -7,10 +8,6 @@ use Rattle.rules.specs.declared.items.Kind.TheVariants.{Value, Open, Close}
 use Rattle.rules.specs.Growth.{next_depth, deeper, new_line, new_class, depth_after, DepthLaw}
 use Rattle.rules.specs.Order.{Nests, value, opens, closes}
 use Rattle.rules.proofs.Orderly.{order_law}
-
-one_more : (b : Bool) (k : ℕ) → cond b (suc k) 0 ≤ suc k
-one_more true k = omega arith
-one_more false k = omega arith
 
 one_less : (k n : ℕ) → k ≤ suc n → pred k ≤ n
 one_less zero n h = omega arith
@@ -29,7 +26,7 @@ module _ (older : Description) where
       let d = deeper_is Value k i e in
       within is more (deeper older k i) n (omega (arith, d, h)) l
   within (i ∷ is) more k (opens {around = around} e r n) h l =
-      let o = one_more (ltb 0 k || (new_line older i.line || new_class older i.class)) k in
+      let o = cond_both (ltb 0 k || (new_line older i.line || new_class older i.class)) (suc k) 0 (λ x. x ≤ suc k) (λ t. omega arith) (λ t. omega arith) in
       let d = deeper_is Open k i e in
       within is more (deeper older k i) n (omega (arith, d, o)) (omega arith)
   within (i ∷ is) more k (closes {around = around} e r n) h l =

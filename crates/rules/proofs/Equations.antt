@@ -1,24 +1,19 @@
 -- The recursion equations of code and of values, with no bound in them.
-use Rattle.std.proofs.Common.{◌≡◌, ℕ, zero, suc, ◌<◌, ◌≤◌, Bool, true, false, T, ltb, List, ℤ, refl, ap, arith, ltb→lt}
+use Rattle.std.proofs.Common.{◌≡◌, ℕ, zero, suc, ◌<◌, ◌≤◌, List, ℤ, refl, ap, arith}
 use mathlib.Core.Path.{fun_ext}
 use Rattle.records.specs.declared.records.Line.{Line}
 use Rattle.records.specs.declared.records.Node.{Node}
 use Rattle.records.specs.Statements.{statement}
 use Rattle.table.specs.Description.{entry, no_line, no_node}
-use Rattle.rules.specs.declared.faults.ReadingCause.TheVariants.{Unchecked}
-use Rattle.rules.specs.Checks.{Check, pick, fails}
+use Rattle.rules.specs.Checks.{Check}
 use Rattle.rules.specs.Terms.{term}
 use Rattle.rules.specs.Values.{Names, term_value, before, value_within, value, ValueLaw}
 use Rattle.rules.specs.Code.{code_within, code, CodeLaw}
-use Rattle.rules.proofs.Same.{coded_same}
+use Rattle.rules.proofs.Same.{coded_same, before_same}
 
 -- two ways to give the earlier values that agree below k
-chosen : (b : Bool) (x y : Check ℤ) → (T b → x ≡ y) → pick b (λ _. x) (λ _. fails Unchecked) ≡ pick b (λ _. y) (λ _. fails Unchecked)
-chosen true x y h = h tt
-chosen false x y h = refl
-
 agreed : (k : ℕ) (p q : ℕ → Check ℤ) → ((j : ℕ) → j < k → p j ≡ q j) → before k p ≡ before k q
-agreed k p q h = fun_ext (λ j. chosen (ltb j k) (p j) (q j) (λ t. h j (ltb→lt j k t)))
+agreed k p q h = fun_ext (before_same k p q h)
 
 -- any bound above a node's number gives the same value
 enough : (nodes : List Node) (size : ℕ) (names : Names) (f g k : ℕ) → k < f → k < g → value_within f nodes size names k ≡ value_within g nodes size names k

@@ -1,35 +1,34 @@
 -- Every fault of a reading has a number of the rules.
-use Rattle.std.proofs.Common.{◌≡◌, ℕ, zero, suc, ◌+◌, ◌^◌, ◌<◌, ◌≤◌, Bool, true, false, cond, not, ◌&&◌, ◌||◌, T, eqb, ltb, leb, ◌⊎◌, List, [], ◌∷◌, length, get_or, ℤ, pos, ◌+ℤ◌, ◌-ℤ◌, ◌*ℤ◌, nat_abs, Ok, Err, sym, refl, ap, subst, inl, inr, arith, lit≤, eqb→eq, ltb→lt, lt→ltb, nltb→le, T_not}
-use lib.Bits.{bit_and, bit_or}
-use lib.Signed.{lt_z, quot_z, rem_z, shr_z}
-use lib.ListN.{get_or-eq_default}
+use Rattle.std.proofs.Common.{◌≡◌, ℕ, zero, suc, ◌+◌, ◌<◌, ◌≤◌, Bool, true, false, cond, not, ◌&&◌, eqb, ltb, leb, ◌⊎◌, List, [], ◌∷◌, length, get_or, ℤ, Ok, Err, sym, refl, ap, subst, inl, inr, arith, lit≤, eqb→eq, lt→ltb, T_not, Some, None, Option}
+use Rattle.std.proofs.lemmas.Bool.{cond_both}
+use Rattle.rules.proofs.Ranges.{Good, good}
+use Rattle.rules.proofs.Entries.{class_there}
+use Rattle.rules.proofs.Booleans.{pick_is}
 use Rattle.rules.specs.declared.faults.ReadingFault.{ReadingFault}
 use Rattle.rules.specs.declared.faults.Failure.{Failure}
 use Rattle.rules.specs.declared.items.Item.{Item}
 use Rattle.records.specs.declared.records.Class.{Class}
 use Rattle.records.specs.declared.records.Extension.{Extension}
 use Rattle.rules.specs.Trace.{Run, out, pass, stop, done, bind, outcome, Outcome, ended, refused}
-use Rattle.rules.specs.Checks.{Check, then, ensure, pick, attempt}
-use Rattle.records.specs.Classes.{is_base, is_member}
+use Rattle.rules.specs.Checks.{Check, then, ensure, attempt}
+use Rattle.records.specs.Classes.{is_base}
 use Rattle.table.specs.Description.{Description, entry, no_class, class_at, line_at, node_at, row_at}
 use Rattle.rules.specs.Lookups.{has_id, greatest, first_member, object_class, find_row}
 use Rattle.rules.specs.declared.faults.ReadingCause.{ReadingCause}
-use Rattle.rules.specs.declared.faults.ReadingCause.TheVariants.{SourceEnds, ObjectEnds, SkippedBits, OutsideBounds, UnknownId, Size, PastWindow, TooFew, BitsLeft, OutOfRange, ZeroDivisor, BadOperand, WidthOrCount, TooManyRounds}
-use Rattle.rules.specs.declared.terms.Operator.{Operator}
-use Rattle.rules.specs.declared.terms.Operator.TheVariants.{Multiply, Divide, Remainder, Add, Subtract, ShiftLeft, ShiftRight, Less, AtMost, Greater, AtLeast, Equal, Unequal, BitAnd, BitOr, And, Or}
+use Rattle.rules.specs.declared.faults.ReadingCause.TheVariants.{SourceEnds, ObjectEnds, SkippedBits, OutsideBounds, UnknownId, Size, PastWindow, TooFew, BitsLeft, WidthOrCount, TooManyRounds}
 use Rattle.rules.specs.declared.terms.Term.{Term}
-use Rattle.rules.specs.declared.terms.Term.TheVariants.{Constant, Named, OwnSize, Apply, NoTerm}
+use Rattle.rules.specs.declared.terms.Term.TheVariants.{Constant, Named, OwnSize, Apply}
 use Rattle.rules.specs.Terms.{term}
-use Rattle.rules.specs.Values.{Names, Worked, in_range, applied, ranged, divided, shifted, bitwise, is_zero, of_node, term_value, before, value_within, value}
+use Rattle.rules.specs.Values.{Names, Worked, is_zero, of_node, term_value, before, value_within, value}
 use Rattle.bits.specs.Bits.{number}
 use Rattle.rules.specs.declared.steps.Header.{Header}
 use Rattle.rules.specs.declared.steps.Window.{Window}
-use Rattle.rules.specs.Steps.{enough, aligned, taken, natural, at_least, at_most, element, mapped, size_bytes, sized, header, at_end, next_multiple, signed}
+use Rattle.rules.specs.Steps.{enough, aligned, taken, natural, bounded, element, mapped, size_bytes, sized, header, at_end, next_multiple}
 use Rattle.records.specs.declared.statements.Statement.{Statement}
 use Rattle.records.specs.declared.statements.Statement.TheVariants.{Read, Assign, MapRead, Use, If, While, Unknown}
 use Rattle.records.specs.Statements.{statement}
-use Rattle.rules.specs.declared.lines.UseLine.{UseLine}
-use Rattle.rules.specs.declared.lines.ReadLine.{ReadLine}
+use Rattle.records.specs.declared.statements.UseLine.{UseLine}
+use Rattle.records.specs.declared.statements.ReadLine.{ReadLine}
 use Rattle.rules.specs.Code.{Code, finish, read, assign, map_read, use_of, branch, while, code}
 use Rattle.rules.specs.Reading.{State, Object, Objects, valued, counted, elements, objects, enough_objects, objects_to_end, used, rounds, run, stretch, extensions, content}
 use Rattle.rules.specs.Tidy.{opened_by, object_by, reading_by}
@@ -37,7 +36,7 @@ use Rattle.checked.specs.Sound.{All}
 use Rattle.rules.specs.Ranks.{Known, FaultsKnown}
 use Rattle.checked.specs.Sound.{Below, LineRanked, Ranked}
 use Rattle.rules.proofs.NodeFacts.{TermRanked, term_ranked}
-use Rattle.rules.proofs.Same.{reads, uses, Each, code_each}
+use Rattle.rules.proofs.Same.{Each, code_each}
 use Rattle.checked.proofs.Ranks.{ranked}
 use Rattle.rules.proofs.Plain.{plain_reading}
 use Rattle.rules.proofs.Chosen.{first_fact, member_base, member_kind}
@@ -65,10 +64,6 @@ unfolding attempt
 goes_attempt line p k (well {a}) h = h a
 goes_attempt line p k (known f) h = stops f
 
-goes_pick : {A : Type 0} (b : Bool) (f g : Unit {0} → Run A) → (T b → Goes (f tt)) → (T (not b) → Goes (g tt)) → Goes (pick b f g)
-goes_pick true f g x y = x tt
-goes_pick false f g x y = y tt
-
 fine_then : {A B : Type 0} {m : Check A} (k : A → Check B) → Fine m → ((a : A) → Fine (k a)) → Fine (then m k)
 unfolding then
 fine_then k (well {a}) h = h a
@@ -79,81 +74,26 @@ unfolding ensure
 fine_ensure true n k = well
 fine_ensure false n k = known k
 
-fine_pick : {A : Type 0} (b : Bool) (f g : Unit {0} → Check A) → (T b → Fine (f tt)) → (T (not b) → Fine (g tt)) → Fine (pick b f g)
-fine_pick true f g x y = x tt
-fine_pick false f g x y = y tt
-
-known_missing : (b : Bool) → Known (cond b ObjectEnds SourceEnds)
-known_missing true = (lit≤ tt, lit≤ tt)
-known_missing false = (lit≤ tt, lit≤ tt)
-
--- the causes of the operators
-abbrev Numbered : Worked → Type 0
-Numbered (Ok v) = Unit {0}
-Numbered (Err c) = Known c
-
-numbered_cond : (b : Bool) (c : ReadingCause) (r : Worked) → Known c → Numbered r → Numbered (cond b (Err c) r)
-numbered_cond true c r k h = k
-numbered_cond false c r k h = h
-
-numbered_either : (b : Bool) (z : ℤ) → Numbered (cond b (Ok z) (Err OutOfRange))
-numbered_either true z = tt
-numbered_either false z = (lit≤ tt, lit≤ tt)
-
-numbered_ranged : (z : ℤ) → Numbered (ranged z)
-numbered_ranged z = numbered_either (in_range z) z
-
-numbered_divided : (by : ℤ → ℤ → ℤ) (x y : ℤ) → Numbered (divided by x y)
-numbered_divided by x y = numbered_cond (is_zero y) ZeroDivisor (ranged (by x y)) (lit≤ tt, lit≤ tt) (numbered_ranged (by x y))
-
-numbered_shifted : (by : ℤ → ℕ → ℤ) (x y : ℤ) → Numbered (shifted by x y)
-numbered_shifted by x y =
-    numbered_cond (lt_z y (pos 0) || lt_z (pos 31) y) BadOperand (ranged (by x (2 ^ nat_abs y))) (lit≤ tt, lit≤ tt) (numbered_ranged (by x (2 ^ nat_abs y)))
-
-numbered_bitwise : (by : ℕ → ℕ → ℕ) (x y : ℤ) → Numbered (bitwise by x y)
-numbered_bitwise by x y =
-    let z : ℤ = pos (by (nat_abs x) (nat_abs y)) in
-    numbered_cond (lt_z x (pos 0) || lt_z y (pos 0)) BadOperand (ranged z) (lit≤ tt, lit≤ tt) (numbered_ranged z)
-
-numbered_applied : (o : Operator) (x y : ℤ) → Numbered (applied o x y)
-numbered_applied Multiply x y = numbered_ranged (x *ℤ y)
-numbered_applied Divide x y = numbered_divided quot_z x y
-numbered_applied Remainder x y = numbered_divided rem_z x y
-numbered_applied Add x y = numbered_ranged (x +ℤ y)
-numbered_applied Subtract x y = numbered_ranged (x -ℤ y)
-numbered_applied ShiftLeft x y = numbered_shifted (λ a m. a *ℤ pos m) x y
-numbered_applied ShiftRight x y = numbered_shifted shr_z x y
-numbered_applied Less x y = tt
-numbered_applied AtMost x y = tt
-numbered_applied Greater x y = tt
-numbered_applied AtLeast x y = tt
-numbered_applied Equal x y = tt
-numbered_applied Unequal x y = tt
-numbered_applied BitAnd x y = numbered_bitwise bit_and x y
-numbered_applied BitOr x y = numbered_bitwise bit_or x y
-numbered_applied And x y = tt
-numbered_applied Or x y = tt
-
-fine_of_node : (k : ℕ) (r : Worked) → Numbered r → Fine (of_node k r)
+fine_of_node : (k : ℕ) (r : Worked) → Good r → Fine (of_node k r)
 fine_of_node k (Ok v) h = well
 fine_of_node k (Err n) h = known h
 
 fine_before : (k : ℕ) (f : ℕ → Check ℤ) (j : ℕ) → j < k → Fine (f j) → Fine (before k f j)
-fine_before k f j h x = fine_pick (ltb j k) _ _ (λ t. x) (λ t. absurd (T_not (ltb j k) t (lt→ltb j k h)))
+fine_before k f j h x = pick_is Fine (ltb j k) _ _ (λ t. x) (λ t. absurd (T_not (ltb j k) t (lt→ltb j k h)))
 
-fine_term : (k : ℕ) (t : Term) (names : Names) (size : ℕ) (f : ℕ → Check ℤ) → TermRanked k t → ((j : ℕ) → 0 < j → j < k → Fine (f j)) →
+fine_term : (k : ℕ) (t : Option Term) (names : Names) (size : ℕ) (f : ℕ → Check ℤ) → TermRanked k t → ((j : ℕ) → 0 < j → j < k → Fine (f j)) →
     Fine (term_value k t names size f)
 unfolding term_value
-fine_term k (Constant v) names size f ok h = well
-fine_term k (Named n) names size f ok h = well
-fine_term k OwnSize names size f ok h = well
-fine_term k (Apply operator left right) names size f ok h =
-    fine_then _ (h left ok.0 ok.1) λ x. fine_then _ (h right ok.2 ok.3) λ y. fine_of_node k _ (numbered_applied operator x y)
-fine_term k NoTerm names size f ok h = absurd ok
+fine_term k (Some (Constant v)) names size f ok h = well
+fine_term k (Some (Named n)) names size f ok h = well
+fine_term k (Some OwnSize) names size f ok h = well
+fine_term k (Some (Apply operator left right)) names size f ok h =
+    fine_then _ (h left ok.0 ok.1) λ x. fine_then _ (h right ok.2 ok.3) λ y. fine_of_node k _ (good operator x y)
+fine_term k None names size f ok h = absurd ok
 
 -- the steps
 fine_enough : (w : Window) (p n : ℕ) → Fine (enough w p n)
-fine_enough w p n = fine_ensure _ _ (known_missing w.object)
+fine_enough w p n = fine_ensure _ _ (cond_both w.object ObjectEnds SourceEnds Known (λ e. (lit≤ tt, lit≤ tt)) (λ e. (lit≤ tt, lit≤ tt)))
 
 fine_aligned : (bits : List Bool) (w : Window) (to p : ℕ) → Fine (aligned bits w to p)
 unfolding aligned
@@ -168,13 +108,9 @@ fine_natural : (m : ℕ) (v : Check ℤ) → Fine v → Fine (natural m v)
 unfolding natural
 fine_natural m v h = fine_then _ h λ z. fine_then _ (fine_ensure _ WidthOrCount (lit≤ tt, lit≤ tt)) λ u. well
 
-fine_least : (n : ℕ) (bound : Check ℤ) (v : ℤ) → (0 < n → Fine bound) → Fine (at_least n bound v)
-fine_least zero bound v h = well
-fine_least (suc n) bound v h = fine_then _ (h (omega arith)) λ low. fine_ensure _ OutsideBounds (lit≤ tt, lit≤ tt)
-
-fine_most : (n : ℕ) (bound : Check ℤ) (v : ℤ) → (0 < n → Fine bound) → Fine (at_most n bound v)
-fine_most zero bound v h = well
-fine_most (suc n) bound v h = fine_then _ (h (omega arith)) λ high. fine_ensure _ OutsideBounds (lit≤ tt, lit≤ tt)
+fine_bounded : (n : ℕ) (bound : Check ℤ) (kept : ℤ → Bool) → (0 < n → Fine bound) → Fine (bounded n bound kept)
+fine_bounded zero bound kept h = well
+fine_bounded (suc n) bound kept h = fine_then _ (h (omega arith)) λ b. fine_ensure _ OutsideBounds (lit≤ tt, lit≤ tt)
 
 fine_element : (bits : List Bool) (w : Window) (l : ReadLine) (width low high : Check ℤ) (p : ℕ) → Fine width → (0 < l.lowest → Fine low) → (0 < l.highest → Fine high) →
     Fine (element bits w l width low high p)
@@ -183,8 +119,8 @@ fine_element bits w l width low high p a b c =
     fine_then _ (fine_aligned bits w l.alignment p) λ q.
     fine_then _ (fine_natural 32 width a) λ n.
     fine_then _ (fine_taken bits w n q) λ raw.
-    fine_then _ (fine_least l.lowest low _ b) λ u.
-    fine_then _ (fine_most l.highest high _ c) λ u. well
+    fine_then _ (fine_bounded l.lowest low _ b) λ u.
+    fine_then _ (fine_bounded l.highest high _ c) λ u. well
 
 fine_mapped : (bits : List Bool) (w : Window) (width : ℕ) (outputs : ℕ → Check ℤ) (p : ℕ) → ((i : ℕ) → Fine (outputs i)) → Fine (mapped bits w width outputs p)
 unfolding mapped
@@ -193,13 +129,13 @@ fine_mapped bits w width outputs p h = fine_then _ (fine_taken bits w width p) �
 fine_row : (d : Description) (at n index : ℕ) → Fine (find_row d at n index)
 unfolding find_row
 fine_row d at zero index = known (lit≤ tt, lit≤ tt)
-fine_row d at (suc n) index = fine_pick (eqb (row_at d at).index index) _ _ (λ t. well) (λ t. fine_row d (suc at) n index)
+fine_row d at (suc n) index = pick_is Fine (eqb (row_at d at).index index) _ _ (λ t. well) (λ t. fine_row d (suc at) n index)
 
 fine_bytes : (bits : List Bool) (w : Window) (n high p : ℕ) → Fine (size_bytes bits w n high p)
 unfolding size_bytes
 fine_bytes bits w zero high p = known (lit≤ tt, lit≤ tt)
 fine_bytes bits w (suc n) high p =
-    fine_then _ (fine_taken bits w 8 p) λ byte. fine_pick (ltb byte 128) _ _ (λ t. well) (λ t. fine_bytes bits w n _ _)
+    fine_then _ (fine_taken bits w 8 p) λ byte. pick_is Fine (ltb byte 128) _ _ (λ t. well) (λ t. fine_bytes bits w n _ _)
 
 fine_sized : (bits : List Bool) (w : Window) (g p : ℕ) → Fine (sized bits w g p)
 unfolding sized
@@ -237,7 +173,7 @@ module _ (d : Description) (ra : Ranked d) (bits : List Bool) where
   abbrev GoObjects : ℕ → Objects → Type 0
   GoObjects rank obj = (line u index : ℕ) (w : Window) (p : ℕ) → Below d rank u → Goes (obj line u index w p)
 
-  goes_elements : (o : Object) (line : ℕ) (l : ReadLine) (rank : ℕ) → LineRanked d rank (reads l) → (n index : ℕ) (s : State) → Goes (elements d bits o line l n index s)
+  goes_elements : (o : Object) (line : ℕ) (l : ReadLine) (rank : ℕ) → LineRanked d rank (Read l) → (n index : ℕ) (s : State) → Goes (elements d bits o line l n index s)
   unfolding elements
   goes_elements o line l rank ok zero index s = passes ends
   goes_elements o line l rank ok (suc n) index s =
@@ -246,7 +182,7 @@ module _ (d : Description) (ra : Ranked d) (bits : List Bool) where
       λ g. gives (goes_elements o line l rank ok n (suc index) _)
 
   module _ (obj : Objects) (rank : ℕ) (go : GoObjects rank obj) (o : Object) where
-    goes_objects : (line : ℕ) (l : UseLine) → LineRanked d rank (uses l) → (n index : ℕ) (s : State) → Goes (objects d bits obj o line l n index s)
+    goes_objects : (line : ℕ) (l : UseLine) → LineRanked d rank (Use l) → (n index : ℕ) (s : State) → Goes (objects d bits obj o line l n index s)
     unfolding objects
     goes_objects line l ok zero index s = passes ends
     goes_objects line l ok (suc n) index s =
@@ -255,14 +191,14 @@ module _ (d : Description) (ra : Ranked d) (bits : List Bool) where
     goes_enough : (line : ℕ) (l : UseLine) (index : ℕ) (s : State) → Goes (enough_objects d bits line l index s)
     goes_enough line l index s = goes_attempt _ _ _ (fine_ensure _ TooFew (lit≤ tt, lit≤ tt)) λ u. passes ends
 
-    goes_to_end : (line : ℕ) (l : UseLine) → LineRanked d rank (uses l) → (n index : ℕ) (s : State) → Goes (objects_to_end d bits obj o line l n index s)
+    goes_to_end : (line : ℕ) (l : UseLine) → LineRanked d rank (Use l) → (n index : ℕ) (s : State) → Goes (objects_to_end d bits obj o line l n index s)
     unfolding objects_to_end
     goes_to_end line l ok zero index s = goes_enough line l index s
     goes_to_end line l ok (suc n) index s =
-        goes_pick (leb o.window.end (next_multiple 8 s.place)) _ _ (λ t. goes_enough line l index s) λ t.
+        pick_is Goes (leb o.window.end (next_multiple 8 s.place)) _ _ (λ t. goes_enough line l index s) λ t.
         goes_bind _ (λ t. goes_to_end line l ok n (suc index) _) (go line l.class index o.window s.place ok.1)
 
-    goes_used : (line : ℕ) (l : UseLine) → LineRanked d rank (uses l) → (k : ℕ) → k ≤ length d.nodes → (s : State) → Goes (used d bits obj o line l k s)
+    goes_used : (line : ℕ) (l : UseLine) → LineRanked d rank (Use l) → (k : ℕ) → k ≤ length d.nodes → (s : State) → Goes (used d bits obj o line l k s)
     unfolding used
     goes_used line l ok zero y s = passes (goes_to_end line l ok l.most 0 s)
     goes_used line l ok (suc k) y s =
@@ -274,7 +210,7 @@ module _ (d : Description) (ra : Ranked d) (bits : List Bool) where
     goes_rounds test body line te bo zero s =
         goes_attempt _ _ _ (te s) λ v. goes_attempt _ _ _ (fine_ensure _ TooManyRounds (lit≤ tt, lit≤ tt)) λ u. passes ends
     goes_rounds test body line te bo (suc n) s =
-        goes_attempt _ _ _ (te s) λ v. passes (goes_pick (is_zero v) _ _ (λ t. ends) (λ t. goes_bind _ (goes_rounds test body line te bo n) (bo s)))
+        goes_attempt _ _ _ (te s) λ v. passes (pick_is Goes (is_zero v) _ _ (λ t. ends) (λ t. goes_bind _ (goes_rounds test body line te bo n) (bo s)))
 
     abbrev Fit : Statement → ℕ → Type 0
     Fit st line = LineRanked d rank st
@@ -290,7 +226,7 @@ module _ (d : Description) (ra : Ranked d) (bits : List Bool) where
     goes_run (use_of line l c) e s = goes_bind _ (goes_run c e.1) (goes_used line l e.0 l.count e.0.0 s)
     goes_run (branch line node a b c) e s =
         goes_attempt _ _ _ (fine_value o s node e.0.2.0 e.0.2.1) λ v.
-        passes (goes_bind _ (goes_run c e.3) (goes_pick (is_zero v) _ _ (λ t. goes_run b e.2 s) (λ t. goes_run a e.1 s)))
+        passes (goes_bind _ (goes_run c e.3) (pick_is Goes (is_zero v) _ _ (λ t. goes_run b e.2 s) (λ t. goes_run a e.1 s)))
     goes_run (while line node most b c) e s =
         goes_bind _ (goes_run c e.2)
         (goes_rounds _ _ line (λ t. fine_value o t node e.0.1.0 e.0.1.1) (goes_run b e.1) most s)
@@ -312,10 +248,10 @@ module _ (d : Description) (ra : Ranked d) (bits : List Bool) where
       }
 
   ranked_more : (r q : ℕ) → r ≤ q → (st : Statement) → LineRanked d r st → LineRanked d q st
-  ranked_more r q h (Read signed width name count alignment ahead lowest highest) x = x
+  ranked_more r q h (Read fields) x = x
   ranked_more r q h (Assign name node) x = x
   ranked_more r q h (MapRead map name) x = x
-  ranked_more r q h (Use class count least most carried receiving) x = (x.0, below_more r q class h x.1)
+  ranked_more r q h (Use fields) x = (x.0, below_more r q fields.class h x.1)
   ranked_more r q h (If node first second) x = x
   ranked_more r q h (While node lines rounds) x = x
   ranked_more r q h Unknown x = x
@@ -339,9 +275,9 @@ module _ (d : Description) (ra : Ranked d) (bits : List Bool) where
     unfolding extensions
     goes_extensions o h [] a s = ends
     goes_extensions o h (e ∷ es) a s =
-        goes_pick (eqb e.class o.class) _ _
+        pick_is Goes (eqb e.class o.class) _ _
         (λ t. goes_attempt _ _ _ (fine_aligned bits o.window 8 s.place) λ q.
-        passes (goes_pick (eqb q o.window.end) _ _ (λ u. ends) λ u.
+        passes (pick_is Goes (eqb q o.window.end) _ _ (λ u. ends) λ u.
         goes_bind _ (goes_extensions o h es a.1)
         (goes_stretch obj rank go o e.first e.number
         (λ n x y. ranked_more _ rank (subst (λ c. (class_at d c).rank ≤ rank) (sym (eqb→eq e.class o.class t)) h) _ (a.0 n x y)) _)))
@@ -396,18 +332,6 @@ module _ (d : Description) (ra : Ranked d) (bits : List Bool) where
       goes_attempt _ _ _ (fine_header bits w (class_at d u) (greatest d u) p) λ h. goes_attempt _ _ _ (fine_ensure _ UnknownId (lit≤ tt, lit≤ tt)) λ x.
       goes_opened (suc n) (object_by d bits false n) (goes_object n) _ _ line index h w (chosen_within (suc n) u h.id b)
 
-  -- a member is there
-  member_there : (m : ℕ) → T (is_member (class_at d m)) → (0 < m) × (m ≤ length d.classes)
-  unfolding entry
-  member_there zero t = absurd t
-  member_there (suc m) t = (omega arith, go (ltb m (length d.classes)) refl)
-    where
-      go : (b : Bool) → ltb m (length d.classes) ≡ b → m < length d.classes
-      go true e = ltb→lt m (length d.classes) (subst T (sym e) tt)
-      go false e =
-          let l : length d.classes ≤ m = nltb→le m (length d.classes) (subst (λ b. T (not b)) (sym e) tt) in
-          absurd (subst (λ c. T (is_member c)) (get_or-eq_default d.classes no_class l) t)
-
   top_below : Below d 17 d.top
   top_below =
       record {
@@ -415,7 +339,7 @@ module _ (d : Description) (ra : Ranked d) (bits : List Bool) where
         there = ra.top.1;
         no_member = ra.top.2;
         own = let z = ra.ranks d.top ra.top.0 ra.top.1 in omega arith;
-        members = λ m t e. let y = member_there m t in let z = ra.ranks m y.0 y.1 in omega arith;
+        members = λ m t e. let k = eqb→eq (class_at d m).kind 2 t in let y = class_there d m (omega arith) in let z = ra.ranks m y.0 y.1 in omega arith;
       }
 
   goes_reading : Goes (reading_by d bits false)

@@ -1,36 +1,12 @@
 -- Runs of a newer description that follow those of an older one, and runs of which nothing is left.
-use Rattle.std.proofs.Common.{◌≡◌, ℕ, zero, ◌<◌, ◌≤◌, Bool, true, false, cond, not, ◌||◌, T, ltb, ◌⊎◌, List, [], ◌∷◌, ◌++◌, length, Ok, Err, sym, refl, ap, ◌∙◌, subst, inl, inr, arith, ltb→lt, lt→ltb}
+use Rattle.std.proofs.Common.{◌≡◌, ℕ, zero, ◌<◌, ◌≤◌, Bool, true, false, not, ◌||◌, T, ltb, ◌⊎◌, List, [], ◌∷◌, ◌++◌, length, Ok, Err, sym, refl, ap, ◌∙◌, subst, inl, inr, arith}
+use Rattle.std.proofs.lemmas.Bool.{lt-ltb, le-ltb, false≢true, or_left, or_right}
 use Rattle.rules.specs.declared.items.Item.{Item}
 use Rattle.rules.specs.declared.faults.ReadingFault.{ReadingFault}
 use Rattle.rules.specs.Trace.{Run, out, pass, stop, done, bind, items, outcome, Outcome, ended, refused}
 use Rattle.rules.specs.Checks.{Check, attempt, pick}
 use Rattle.table.specs.Description.{Description}
 use Rattle.rules.specs.Growth.{new_line, deeper, left_of, strike, depth_after, lacked, Shorter, Compares}
-
-pub true_of : (b : Bool) → T b → b ≡ true
-true_of true t = refl
-true_of false t = absurd t
-
-pub false_of : (b : Bool) → T (not b) → b ≡ false
-false_of true t = absurd t
-false_of false t = refl
-
-pub below_true : (a b : ℕ) → a < b → ltb a b ≡ true
-below_true a b h = true_of (ltb a b) (lt→ltb a b h)
-
-pub above_false : (a b : ℕ) → b ≤ a → ltb a b ≡ false
-above_false a b h = go (ltb a b) refl
-  where
-    go : (t : Bool) → ltb a b ≡ t → ltb a b ≡ false
-    go true e = let z : a < b = ltb→lt a b (subst T (sym e) tt) in let y : ⊥ = omega arith in absurd y
-    go false e = e
-
-pub or_true : (b : Bool) → (b || true) ≡ true
-or_true true = refl
-or_true false = refl
-
-pub false_true : false ≡ true → ⊥
-false_true e = subst (λ b. cond b ⊥ (Unit {0})) e tt
 
 -- a run that hands out something yet
 abbrev pub More : {A : Type 0} → Run A → Type 0
@@ -150,8 +126,8 @@ module _ (older : Description) where
   strike_hidden k m i is e d = λ x. e x ++ strike older (d x) is
 
   hidden_true : (k line : ℕ) → Hidden older k line → (new_line older line || ltb 0 k) ≡ true
-  hidden_true k line (inl h) = ap (λ b. new_line older line || b) (below_true 0 k h) ∙ or_true (new_line older line)
-  hidden_true k line (inr h) = ap (λ b. b || ltb 0 k) (below_true (length older.lines) line h)
+  hidden_true k line (inl h) = or_right _ _ (lt-ltb 0 k h)
+  hidden_true k line (inr h) = or_left _ _ (lt-ltb (length older.lines) line h)
 
   more_items : {A : Type 0} (o : Run A) → More o → Shorter [] (items o)
   unfolding items
@@ -163,9 +139,9 @@ module _ (older : Description) where
   -- what follows compares as the law says
   pub compares : {A B : Type 0} {R : A → B → Type 0} {k : ℕ} {n : Run A} {o : Run B} → Follows older false R k n o → Compares older k n o
   unfolding items outcome strike depth_after
-  compares (ends r) = record { agree = λ e. (refl, refl); short = λ e. absurd (false_true e) }
+  compares (ends r) = record { agree = λ e. (refl, refl); short = λ e. absurd (false≢true e) }
   compares (refuses {f} l) =
-      record { agree = λ e. (refl, refl); short = λ e. absurd (false_true (sym (ap (λ b. b || false) (above_false (length older.lines) f.line l)) ∙ e)) }
+      record { agree = λ e. (refl, refl); short = λ e. absurd (false≢true (sym (ap (λ b. b || false) (le-ltb (length older.lines) f.line l)) ∙ e)) }
   compares (shown {i} {j} {k} {m} {n} {o} e d q t) =
       let c = compares t in
       let l = lacked_step k m i (items n) (outcome n) d in
@@ -185,7 +161,7 @@ module _ (older : Description) where
             (r.0, r.1, r.2 ∙ ap (λ (is : List Item). is ++ (r.0 ∷ r.1)) (sym p));
       }
   compares (lost {f} {k} {o} x l m) =
-      record { agree = λ h. absurd (false_true (sym h ∙ hidden_true k f.line l)); short = λ h. more_items o m }
+      record { agree = λ h. absurd (false≢true (sym h ∙ hidden_true k f.line l)); short = λ h. more_items o m }
   compares (gives_up x) = absurd x
   compares (new_pass t) = record { agree = (compares t).agree; short = (compares t).short }
   compares (old_pass t) = record { agree = (compares t).agree; short = (compares t).short }

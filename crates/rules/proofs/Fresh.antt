@@ -1,12 +1,12 @@
 -- A new extension has new lines: the older's stand in the older's stretches, and no line stands in two.
-use Rattle.std.proofs.Common.{◌≡◌, ℕ, suc, ◌+◌, ◌<◌, ◌≤◌, Bool, true, false, cond, not, ◌&&◌, T, ltb, leb, List, [], ◌∷◌, ◌++◌, length, sym, refl, ap, ◌∙◌, subst, arith, le→leb, ltb→lt, lt→ltb, nltb→le, length-append}
+use Rattle.std.proofs.Common.{◌≡◌, ℕ, suc, ◌+◌, ◌<◌, ◌≤◌, cond, ◌&&◌, List, [], ◌∷◌, ◌++◌, length, ap, ◌∙◌, inl, inr, arith, length-append}
+use Rattle.std.proofs.lemmas.Bool.{le-leb, lt-ltb, cases_lt}
 use Rattle.records.specs.declared.records.Class.{Class}
 use Rattle.records.specs.declared.records.Extension.{Extension}
 use Rattle.table.specs.Description.{Description}
 use Rattle.rules.specs.Lookups.{greatest}
 use Rattle.rules.specs.Growth.{Grown}
 use Rattle.checked.specs.Sound.{All, Sound, held_by, in_classes, in_extensions}
-use Rattle.rules.proofs.Follow.{true_of}
 
 in_classes-append : (xs ys : List Class) (n : ℕ) → in_classes (xs ++ ys) n ≡ in_classes xs n + in_classes ys n
 unfolding in_classes
@@ -20,23 +20,20 @@ in_extensions-append (x ∷ xs) ys n = rw (in_extensions-append xs ys n) (omega 
 
 holds_first : (first number : ℕ) → 0 < number → held_by first number first ≡ 1
 holds_first first number h =
-    λ i. cond (true_of (leb first first) (le→leb first first (omega arith)) i && true_of (ltb first (first + number)) (lt→ltb first (first + number) (omega arith)) i) 1 0
+    λ i. cond (le-leb first first (omega arith) i && lt-ltb first (first + number) (omega arith) i) 1 0
 
 all_fresh : (most : ℕ) (P : Extension → Type 0) → ((e : Extension) → P e → (0 < e.first) × (0 < e.number)) → (es : List Extension) → All P es →
     ((n : ℕ) → 0 < n → n ≤ most → in_extensions es n ≡ 0) → All (λ (e : Extension). most < e.first) es
 unfolding in_extensions
 all_fresh most P some [] a h = tt
 all_fresh most P some (e ∷ es) a h =
-    (go (ltb most e.first) refl, all_fresh most P some es a.1 (λ n x y. let z = h n x y in omega arith))
+    (later, all_fresh most P some es a.1 (λ n x y. let z = h n x y in omega arith))
   where
-    go : (b : Bool) → ltb most e.first ≡ b → most < e.first
-    go true q = ltb→lt most e.first (subst T (sym q) tt)
-    go false q =
-        let l : e.first ≤ most = nltb→le most e.first (subst (λ b. T (not b)) (sym q) tt) in
-        let z = h e.first (some e a.0).0 l in
-        let o = holds_first e.first e.number (some e a.0).1 in
-        let y : ⊥ = omega arith in
-        absurd y
+    later : most < e.first
+    later = elim (cases_lt most e.first) [
+      | inl l ↦ l
+      | inr l ↦ (let z = h e.first (some e a.0).0 l in let o = holds_first e.first e.number (some e a.0).1 in absurd (omega arith))
+    ]
 
 module _ (older newer : Description) (so : Sound older) (sn : Sound newer) (gr : Grown older newer) where
   older_once : (n : ℕ) → 0 < n → n ≤ length older.lines → in_extensions gr.extensions.0 n ≡ 0

@@ -1,3 +1,4 @@
+pub mod Booleans
 pub mod Samples
 pub mod Plain
 pub mod Follow

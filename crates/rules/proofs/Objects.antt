@@ -1,9 +1,13 @@
 -- An object, and the whole reading, by the newer description follows that by the older one.
 use Rattle.std.proofs.Common.{◌≡◌, ℕ, zero, suc, ◌+◌, ◌-◌, ◌*◌, ◌<◌, ◌≤◌, Bool, true, false, cond, not, ◌&&◌, ◌||◌, T, eqb, leb, ◌⊎◌, List, [], ◌∷◌, ◌++◌, length, Ok, Err, sym, refl, ap, ◌∙◌, subst, subst₂, inl, inr, arith, le→leb, eqb→eq, T_not}
+use Rattle.std.proofs.Math.Facts.{and_yes, or_yes}
+use Rattle.std.proofs.Math.Bool.{or-true}
+use Rattle.std.proofs.lemmas.Bool.{not_from_false, ne_eqb}
+use Rattle.rules.proofs.Facts.{ensure_ok}
+use Rattle.rules.proofs.Booleans.{true_of, decide}
 use lib.Dec.{eqb_refl}
 use Rattle.records.specs.declared.records.Class.{Class}
 use Rattle.rules.specs.declared.faults.Failure.{Failure}
-use Rattle.rules.specs.declared.faults.ReadingCause.{ReadingCause}
 use Rattle.rules.specs.declared.faults.ReadingCause.TheVariants.{SourceEnds, ObjectEnds, SkippedBits, UnknownId, BitsLeft}
 use Rattle.records.specs.declared.records.Extension.{Extension}
 use Rattle.rules.specs.Trace.{Run, out, done, bind, bind_assoc, items, outcome, ended}
@@ -23,7 +27,7 @@ use Rattle.rules.specs.Growth.{Grown, Compares, GrowthLaw, CopyLaw}
 use Rattle.checked.specs.Sound.{Sound, All}
 use Rattle.checked.proofs.Sounds.{sound}
 use Rattle.rules.proofs.Plain.{plain_reading}
-use Rattle.rules.proofs.Follow.{Hidden, More, Blank, Follows, ends, refuses, shown, gives_up, new_pass, both_pass, follows_bind, blank_follows, follows_attempt, or_true, true_of, compares, copies}
+use Rattle.rules.proofs.Follow.{Hidden, More, Blank, Follows, ends, refuses, shown, gives_up, new_pass, both_pass, follows_bind, blank_follows, follows_attempt, compares, copies}
 use Rattle.rules.proofs.Struck.{show_open, show_open_deeper, show_close, show_close_deeper, mask_open, mask_open_deeper, mask_close, close_deeper}
 use Rattle.rules.proofs.Same.{class_same, greatest_same, code_each}
 use Rattle.rules.proofs.Blanks.{HiddenLine, HiddenExtension, blank_extensions, blank_content, blank_object}
@@ -38,27 +42,6 @@ all_right P (x ∷ xs) ys a = all_right P xs ys a.1
 all_both : {A : Type 0} (P Q R : A → Type 0) → ((x : A) → P x → Q x → R x) → (xs : List A) → All P xs → All Q xs → All R xs
 all_both P Q R h [] a b = tt
 all_both P Q R h (x ∷ xs) a b = (h x a.0 b.0, all_both P Q R h xs a.1 b.1)
-
-split : (b : Bool) → T b ⊎ T (not b)
-split true = inl tt
-split false = inr tt
-
-ensured : (b : Bool) (n : ReadingCause) → ensure b n ≡ Ok tt → T b
-unfolding ensure
-ensured true n e = tt
-ensured false n e = let z : ◌≡◌ {A = ℕ} 0 1 = cc in let y : ⊥ = omega arith in absurd y
-
-and_first : (a b : Bool) → T (a && b) → T a
-and_first true b t = tt
-and_first false b t = t
-
-and_second : (a b : Bool) → T (a && b) → T b
-and_second true b t = t
-and_second false b t = absurd t
-
-or_either : (a b : Bool) → T (a || b) → T a ⊎ T b
-or_either true b t = inl tt
-or_either false b t = inr t
 
 -- an alignment that lands on the window's end over bits that are 0
 aligned_to_end : (bits : List Bool) (w : Window) (p : ℕ) → next_multiple 8 p ≡ w.end → T (eqb (number (part bits p (w.end - p))) 0) → aligned bits w 8 p ≡ Ok w.end
@@ -77,8 +60,8 @@ closable_refuses d bits false g w p e h = let z : ◌≡◌ {A = ℕ} 0 1 = cc i
 closable-aligned : (d : Description) (bits : List Bool) (b : Bool) (g : ℕ) (w : Window) (p : ℕ) → T b → closable d bits b g w p ≡ Ok tt → 0 < g → aligned bits w 8 p ≡ Ok w.end
 closable-aligned d bits true zero w p t e h = let y : ⊥ = omega arith in absurd y
 closable-aligned d bits true (suc g) w p t e h =
-    let a = ensured (eqb (next_multiple 8 p) w.end && eqb (number (part bits p (w.end - p))) 0) BitsLeft e in
-    aligned_to_end bits w p (eqb→eq (next_multiple 8 p) w.end (and_first _ _ a)) (and_second _ _ a)
+    let a = ensure_ok (eqb (next_multiple 8 p) w.end && eqb (number (part bits p (w.end - p))) 0) BitsLeft tt e in
+    aligned_to_end bits w p (eqb→eq (next_multiple 8 p) w.end (and_yes _ _ a).0) (and_yes _ _ a).1
 closable-aligned d bits false g w p t e h = absurd t
 
 module _ (older : Description) (tidy : Bool) where
@@ -287,20 +270,15 @@ module _ (older newer : Description) (gr : Grown older newer) (so : Sound older)
       follow_rest : (ys : List Extension) → All (HiddenExtension older newer 0 o g) ys → (p : ℕ) (new old : Names) → Agree older new old →
           Follows older tidy (Left older declared) zero (bind (extensions newer bits new_obj o ys (at p new)) (allowed false c g line index o.window))
           (allowed tidy c g line index o.window (at p old))
-      follow_rest ys a p new old h = go (split tidy)
-        where
-          go : T tidy ⊎ T (not tidy) →
-              Follows older tidy (Left older declared) zero (bind (extensions newer bits new_obj o ys (at p new)) (allowed false c g line index o.window))
-              (allowed tidy c g line index o.window (at p old))
-          go (inl t) =
-              old_attempt older tidy line p _ _ _ (λ e q. t) λ u e.
-              tidy_rest o g p (closable-aligned older bits tidy g o.window p t e) (allowed false c g line index o.window) _ new
-              (λ q x. new_attempt older tidy line q _ _ tt _ refl (follow_closing declared c g line index o.window l k (at q new) (at p old) h x)) ys a
-          go (inr plain) =
-              subst (λ r. Follows older tidy (Left older declared) zero (bind (extensions newer bits new_obj o ys (at p new)) (allowed false c g line index o.window)) r)
-              (sym (allowed_plain tidy plain c g line index o.window (at p old)))
-              (plain_rest o g plain (allowed false c g line index o.window) (closing c g line index o.window (at p old)) p new old tt h
-              (λ t ag x. new_attempt older tidy line t.place _ _ tt _ refl (follow_closing declared c g line index o.window l k t (at p old) ag x)) ys a)
+      follow_rest ys a p new old h =
+          decide tidy
+          (λ t. old_attempt older tidy line p _ _ _ (λ e q. t) λ u e.
+          tidy_rest o g p (closable-aligned older bits tidy g o.window p t e) (allowed false c g line index o.window) _ new
+          (λ q x. new_attempt older tidy line q _ _ tt _ refl (follow_closing declared c g line index o.window l k (at q new) (at p old) h x)) ys a)
+          (λ plain. subst (λ r. Follows older tidy (Left older declared) zero (bind (extensions newer bits new_obj o ys (at p new)) (allowed false c g line index o.window)) r)
+          (sym (allowed_plain tidy plain c g line index o.window (at p old)))
+          (plain_rest o g plain (allowed false c g line index o.window) (closing c g line index o.window (at p old)) p new old tt h
+          (λ t ag x. new_attempt older tidy line t.place _ _ tt _ refl (follow_closing declared c g line index o.window l k t (at p old) ag x)) ys a))
 
     -- an object whose class the older knows, or that is unknown to both
     follow_opened : (declared c g line index : ℕ) (a : Header) (w : Window) → line ≤ length older.lines → c ≤ length older.classes →
@@ -338,14 +316,13 @@ module _ (older newer : Description) (gr : Grown older newer) (so : Sound older)
         (attempt line p (ensure (not (eqb new 0) || (not false && not (eqb g 0))) UnknownId) λ u. opened_by newer bits false new_obj new g line index a w)
         (attempt line p (ensure (not (eqb old 0) || (not tidy && not (eqb g 0))) UnknownId) λ u. opened_by older bits tidy old_obj old g line index a w)
     unfolding ensure
-    follow_chosen declared g line index p a w l e new old ch eg = go (split tidy) ch
+    follow_chosen declared g line index p a w l e new old ch eg = decide tidy (λ u. go (inl u) ch) (λ u. go (inr u) ch)
       where
         known : T tidy → ensure (not (eqb old 0) || (not tidy && not (eqb g 0))) UnknownId ≡ Ok tt → T (not (eqb old 0))
-        known t q = pickone (or_either (not (eqb old 0)) (not tidy && not (eqb g 0)) (ensured _ UnknownId q))
-          where
-            pickone : T (not (eqb old 0)) ⊎ T (not tidy && not (eqb g 0)) → T (not (eqb old 0))
-            pickone (inl x) = x
-            pickone (inr x) = absurd (T_not tidy (and_first (not tidy) _ x) t)
+        known t q = elim (or_yes (not (eqb old 0)) (not tidy && not (eqb g 0)) (ensure_ok _ UnknownId tt q)) [
+          | inl x ↦ x
+          | inr x ↦ absurd (T_not tidy (and_yes (not tidy) _ x).0 t)
+        ]
 
         opens : (c : ℕ) → new ≡ old → old ≤ length older.classes →
             Follows older tidy (Left older declared) zero (opened_by newer bits false new_obj new g line index a w) (opened_by older bits tidy old_obj old g line index a w)
@@ -353,12 +330,8 @@ module _ (older newer : Description) (gr : Grown older newer) (so : Sound older)
             subst (λ c. Follows older tidy (Left older declared) zero (opened_by newer bits false new_obj c g line index a w) (opened_by older bits tidy old_obj old g line index a w))
             (sym q) (follow_opened declared old g line index a w l k eg)
 
-        tested : (b : Bool) → 0 < g → eqb g 0 ≡ b → not (eqb g 0) ≡ true
-        tested true h q = let z : g ≡ 0 = eqb→eq g 0 (subst T (sym q) tt) in let y : ⊥ = omega arith in absurd y
-        tested false h q = ap not q
-
         passes : (t : Bool) → t ≡ true → 0 < g → (c : ℕ) → ensure (not (eqb c 0) || (t && not (eqb g 0))) UnknownId ≡ Ok tt
-        passes t q h c = (λ i. ensure (not (eqb c 0) || (q i && tested (eqb g 0) h refl i)) UnknownId) ∙ ap (λ b. ensure b UnknownId) (or_true (not (eqb c 0)))
+        passes t q h c = (λ i. ensure (not (eqb c 0) || (q i && not_from_false (eqb g 0) (ne_eqb g 0 (λ e. omega arith)) i)) UnknownId) ∙ ap (λ b. ensure b UnknownId) (or-true (not (eqb c 0)))
 
         go : T tidy ⊎ T (not tidy) → Chosen older newer gr declared new old →
             Follows older tidy (Left older declared) zero

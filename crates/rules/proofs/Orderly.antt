@@ -1,4 +1,5 @@
 -- Every reading is orderly.
+use Rattle.records.specs.declared.statements.Statement.TheVariants.{Read, Use}
 use Rattle.std.proofs.Common.{◌≡◌, ℕ, zero, suc, ◌+◌, ◌*◌, ◌%◌, ◌^◌, ◌<◌, ◌≤◌, Bool, true, false, not, T, eqb, leb, List, [], ◌∷◌, length, ℤ, Ok, Err, sym, refl, ap, subst, arith}
 use Rattle.records.specs.declared.records.Extension.{Extension}
 use Rattle.records.specs.declared.statements.Statement.{Statement}
@@ -11,8 +12,8 @@ use Rattle.rules.specs.Trace.{Run, bind, items, outcome, Outcome, ended, refused
 use Rattle.rules.specs.Checks.{Check, pick, attempt}
 use Rattle.rules.specs.Lookups.{greatest, object_class, map_output}
 use Rattle.rules.specs.Values.{is_zero}
-use Rattle.rules.specs.declared.lines.UseLine.{UseLine}
-use Rattle.rules.specs.declared.lines.ReadLine.{ReadLine}
+use Rattle.records.specs.declared.statements.UseLine.{UseLine}
+use Rattle.records.specs.declared.statements.ReadLine.{ReadLine}
 use Rattle.rules.specs.Code.{Code, finish, read, assign, map_read, use_of, branch, while, code}
 use Rattle.rules.specs.declared.steps.Header.{Header}
 use Rattle.rules.specs.declared.steps.Window.{Window}
@@ -20,9 +21,14 @@ use Rattle.rules.specs.Steps.{next_multiple}
 use Rattle.rules.specs.Reading.{State, Object, Objects, after_read, after_object, open_item, elements, objects, enough_objects, objects_to_end, used, rounds, run, stretch, extensions, content, inner, closed, opened, object, whole, reading, moved}
 use Rattle.checked.specs.Sound.{All}
 use Rattle.rules.specs.Order.{used_by, declared_at, ValueFits, Fits, extent, Moves, ends, stops, passes, value, opens, closes, WindowLaw, InOrder, last_place, Nests, OrderLaw}
-use Rattle.rules.proofs.Facts.{aligned_facts, element_facts, mapped_facts, header_facts}
+use Rattle.rules.proofs.Facts.{aligned_facts, element_facts, mapped_facts, header_facts, inner_facts, closed_facts, place_of}
 use Rattle.rules.proofs.WholeBytes.{bytes}
-use Rattle.rules.proofs.Same.{reads, uses, Each, code_each}
+use Rattle.rules.proofs.Same.{Each, code_each}
+
+pub use_declared : (d : Description) (line : ℕ) (l : UseLine) → statement (line_at d line) ≡ Use l → declared_at d line ≡ l.class
+unfolding entry
+use_declared d zero l e = let y : ◌≡◌ {A = ℕ} 0 1 = cc in let z : ⊥ = omega arith in absurd z
+use_declared d (suc n) l e = ap used_by e
 
 module _ (d : Description) where
   module _ {A : Type 0} {at : A → ℕ} {home : List Item} where
@@ -66,9 +72,6 @@ module _ (d : Description) where
     moves_pick true f g x y = x tt
     moves_pick false f g x y = y tt
 
-  abbrev place_of : State → ℕ
-  place_of s = s.place
-
   -- a line is what the code says
   abbrev Tells : Statement → ℕ → Type 0
   Tells st line = statement (line_at d line) ≡ st
@@ -77,16 +80,11 @@ module _ (d : Description) where
   unfolding code
   code_tells at n = code_each Tells d.lines 0 (at + n) (λ at x y. refl) n at n (omega arith) (omega arith)
 
-  uses_declared : (line : ℕ) (l : UseLine) → Tells (uses l) line → declared_at d line ≡ l.class
-  unfolding entry
-  uses_declared zero l e = let y : ◌≡◌ {A = ℕ} 0 1 = cc in let z : ⊥ = omega arith in absurd z
-  uses_declared (suc n) l e = ap used_by e
-
   module _ (bits : List Bool) (o : Object) (top : Item) (same : o.class ≡ top.class) (around : List Item) where
     abbrev Inside : State → Run State → Type 0
     Inside s t = Moves d place_of (top ∷ around) o.window.end (top ∷ around) s.place t
 
-    moves_elements : (line : ℕ) (l : ReadLine) → Tells (reads l) line → (n index : ℕ) (s : State) → s.place ≤ o.window.end →
+    moves_elements : (line : ℕ) (l : ReadLine) → Tells (Read l) line → (n index : ℕ) (s : State) → s.place ≤ o.window.end →
         Inside s (elements d bits o line l n index s)
     unfolding elements
     moves_elements line l tells zero index s h = passes (ends (omega arith) h)
@@ -100,27 +98,27 @@ module _ (d : Description) where
     module _ (obj : Objects)
         (objs : (line declared index : ℕ) (p : ℕ) → declared_at d line ≡ declared → p ≤ o.window.end →
         Moves d place_of (top ∷ around) o.window.end (top ∷ around) p (obj line declared index o.window p)) where
-      moves_objects : (line : ℕ) (l : UseLine) → Tells (uses l) line → (n index : ℕ) (s : State) → s.place ≤ o.window.end →
+      moves_objects : (line : ℕ) (l : UseLine) → Tells (Use l) line → (n index : ℕ) (s : State) → s.place ≤ o.window.end →
           Inside s (objects d bits obj o line l n index s)
       unfolding objects
       moves_objects line l tells zero index s h = passes (ends (omega arith) h)
       moves_objects line l tells (suc n) index s h =
           moves_bind _ (λ t q. moves_objects line l tells n (suc index) (after_object l t s) q)
-          (objs line l.class index s.place (uses_declared line l tells) h)
+          (objs line l.class index s.place (use_declared d line l tells) h)
 
       moves_enough : (line : ℕ) (l : UseLine) (index : ℕ) (s : State) → s.place ≤ o.window.end → Inside s (enough_objects d bits line l index s)
       moves_enough line l index s h = moves_attempt line s.place (omega arith) h _ _ λ u e. passes (ends (omega arith) h)
 
-      moves_to_end : (line : ℕ) (l : UseLine) → Tells (uses l) line → (n index : ℕ) (s : State) → s.place ≤ o.window.end →
+      moves_to_end : (line : ℕ) (l : UseLine) → Tells (Use l) line → (n index : ℕ) (s : State) → s.place ≤ o.window.end →
           Inside s (objects_to_end d bits obj o line l n index s)
       unfolding objects_to_end
       moves_to_end line l tells zero index s h = moves_enough line l index s h
       moves_to_end line l tells (suc n) index s h =
           moves_pick (leb o.window.end (next_multiple 8 s.place)) _ _ (λ t. moves_enough line l index s h) λ t.
           moves_bind _ (λ t q. moves_to_end line l tells n (suc index) (after_object l t s) q)
-          (objs line l.class index s.place (uses_declared line l tells) h)
+          (objs line l.class index s.place (use_declared d line l tells) h)
 
-      moves_used : (line : ℕ) (l : UseLine) → Tells (uses l) line → (k : ℕ) (s : State) → s.place ≤ o.window.end → Inside s (used d bits obj o line l k s)
+      moves_used : (line : ℕ) (l : UseLine) → Tells (Use l) line → (k : ℕ) (s : State) → s.place ≤ o.window.end → Inside s (used d bits obj o line l k s)
       unfolding used
       moves_used line l tells zero s h = passes (moves_to_end line l tells l.most 0 s h)
       moves_used line l tells (suc k) s h = moves_attempt line s.place (omega arith) h _ _ λ n e. passes (moves_objects line l tells n 0 s h)
@@ -179,16 +177,6 @@ module _ (d : Description) where
           (moves_stretch _ _ s h)
 
   module _ (bits : List Bool) where
-    -- the window inside an object, and its close
-    inner_facts : (g : ℕ) (h : Header) (w : Window) → h.after + 8 * h.size ≤ w.end →
-        (h.after ≤ (inner d bits g h w).end) × ((inner d bits g h w).end ≤ w.end)
-    inner_facts zero h w l = (omega arith, omega arith)
-    inner_facts (suc g) h w l = (omega arith, l)
-
-    closed_facts : (g : ℕ) (w : Window) (s : State) → s.place ≤ w.end → (s.place ≤ (closed d bits g w s).place) × ((closed d bits g w s).place ≤ w.end)
-    closed_facts zero w s l = (omega arith, l)
-    closed_facts (suc g) w s l = (l, omega arith)
-
     -- where an expandable object is closed
     closed_byte : (g : ℕ) (h : Header) (w : Window) (s : State) → (0 < g → (h.after + 8 * h.size) % 8 ≡ 0) → 0 < g →
         (closed d bits g (inner d bits g h w) s).place % 8 ≡ 0
@@ -205,7 +193,7 @@ module _ (d : Description) where
         let g = greatest d declared in
         let c = object_class d declared a.id in
         let f = header_facts bits w (class_at d declared) g p a q in
-        let i = inner_facts g a w f.within in
+        let i = inner_facts d bits g a w f.within in
         let o : Object = record { class = c; size = a.size; window = inner d bits g a w } in
         let top = open_item c line index a in
         opens refl (omega arith) f.ahead (omega (arith, f.onward, f.within))
@@ -214,7 +202,7 @@ module _ (d : Description) where
         (raise i.1
         (moves_bind _
         (λ s x.
-        let z = closed_facts g o.window s x in
+        let z = closed_facts d bits g o.window s x in
         closes refl (record { line = refl; class = refl; index = refl }) z.0 z.1
         (λ b y. closed_byte g a w s (λ v. f.ends v (bytes d b declared v)) (subst (λ c. 0 < greatest d c) e y))
         (ends (omega arith) z.1))

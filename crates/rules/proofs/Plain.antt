@@ -1,5 +1,5 @@
 -- A reading that need not be tidy is the reading.
-use Rattle.std.proofs.Common.{◌≡◌, ℕ, zero, suc, Bool, false, not, ◌||◌, eqb, List, refl, ap, ◌∙◌}
+use Rattle.std.proofs.Common.{◌≡◌, ℕ, zero, suc, Bool, false, not, ◌||◌, eqb, List, refl, ap}
 use Rattle.table.specs.Description.{Description, class_at}
 use Rattle.rules.specs.declared.faults.ReadingCause.TheVariants.{UnknownId}
 use Rattle.rules.specs.Trace.{bind, done}
@@ -10,18 +10,14 @@ use Rattle.rules.specs.Reading.{Objects, opened, object, reading, whole}
 use Rattle.rules.specs.Tidy.{opened_by, object_by, reading_by}
 
 module _ (d : Description) (bits : List Bool) where
-  plain_opened : (obj : Objects) → opened_by d bits false obj ≡ opened d bits obj
-  unfolding opened opened_by attempt
-  plain_opened obj = refl
-
   pub plain_object : (n : ℕ) → object_by d bits false n ≡ object d bits n
-  unfolding object object_by
+  unfolding object object_by opened opened_by attempt
   plain_object zero = refl
   plain_object (suc n) =
       λ i line declared index w p.
       attempt line p (header bits w (class_at d declared) (greatest d declared) p) λ h.
       attempt line p (ensure (not (eqb (object_class d declared h.id) 0) || not (eqb (greatest d declared) 0)) UnknownId) λ _.
-      (ap (opened_by d bits false) (plain_object n) ∙ plain_opened (object d bits n)) i (object_class d declared h.id) (greatest d declared) line index h w
+      ap (opened_by d bits false) (plain_object n) i (object_class d declared h.id) (greatest d declared) line index h w
 
   pub plain_reading : reading_by d bits false ≡ reading d bits
   unfolding reading reading_by

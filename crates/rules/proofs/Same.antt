@@ -1,5 +1,5 @@
 -- What a newer description answers as the older does: entries, nodes, maps and code.
-use Rattle.std.proofs.Common.{◌≡◌, ℕ, zero, suc, ◌+◌, ◌-◌, ◌<◌, ◌≤◌, min, Bool, true, false, cond, not, T, eqb, ltb, List, length, get_or, ℤ, Ok, refl, ap, ◌∙◌, arith, ltb→lt}
+use Rattle.std.proofs.Common.{◌≡◌, ℕ, zero, suc, ◌+◌, ◌-◌, ◌<◌, ◌≤◌, min, Bool, true, false, cond, not, T, eqb, ltb, List, length, get_or, ℤ, Ok, refl, ap, ◌∙◌, arith, ltb→lt, Some, None, Option}
 use lib.ListN.{get_or-append}
 use Rattle.records.specs.declared.records.Line.{Line}
 use Rattle.rules.specs.Checks.{Check, pick, then}
@@ -7,14 +7,12 @@ use Rattle.records.specs.Classes.{is_member}
 use Rattle.table.specs.Description.{Description, entry, no_line, no_node, no_row, no_map, no_class, node_at, row_at, map_at, class_at, line_at}
 use Rattle.rules.specs.Lookups.{output, find_row, map_output, greatest}
 use Rattle.rules.specs.declared.terms.Term.{Term}
-use Rattle.rules.specs.declared.terms.Term.TheVariants.{Constant, Named, OwnSize, Apply, NoTerm}
+use Rattle.rules.specs.declared.terms.Term.TheVariants.{Constant, Named, OwnSize, Apply}
 use Rattle.rules.specs.Terms.{term}
 use Rattle.rules.specs.Values.{Names, term_value, before, value_within, value, of_node, applied}
 use Rattle.records.specs.declared.statements.Statement.{Statement}
 use Rattle.records.specs.declared.statements.Statement.TheVariants.{Read, Assign, MapRead, Use, If, While, Unknown}
 use Rattle.records.specs.Statements.{statement}
-use Rattle.rules.specs.declared.lines.UseLine.{UseLine}
-use Rattle.rules.specs.declared.lines.ReadLine.{ReadLine}
 use Rattle.rules.specs.Code.{Code, finish, read, assign, map_read, use_of, branch, while, coded, code_within, code}
 use Rattle.rules.specs.Growth.{Begins, Grown}
 use Rattle.checked.specs.Sound.{Sound}
@@ -29,32 +27,25 @@ pub pick_same : {A : Type 0} (b : Bool) (f g u v : Unit {0} → A) → (T b → 
 pick_same true f g u v x y = x tt
 pick_same false f g u v x y = y tt
 
-before_same : (k : ℕ) (f g : ℕ → Check ℤ) → ((j : ℕ) → j < k → f j ≡ g j) → (j : ℕ) → before k f j ≡ before k g j
+pub before_same : (k : ℕ) (f g : ℕ → Check ℤ) → ((j : ℕ) → j < k → f j ≡ g j) → (j : ℕ) → before k f j ≡ before k g j
 before_same k f g h j = pick_same (ltb j k) _ _ _ _ (λ t. h j (ltb→lt j k t)) (λ t. refl)
-
--- the fields of a read, and of a use, as a statement
-abbrev pub reads : ReadLine → Statement
-reads l = Read l.signed l.width l.name l.count l.alignment l.ahead l.lowest l.highest
-
-abbrev pub uses : UseLine → Statement
-uses l = Use l.class l.count l.least l.most l.carried l.receiving
 
 -- code all of whose lines have a property
 abbrev pub Each : (Statement → ℕ → Type 0) → Code → Type 0
 Each P finish = Unit {0}
-Each P (read line l k) = P (reads l) line × Each P k
+Each P (read line l k) = P (Read l) line × Each P k
 Each P (assign line name node k) = P (Assign name node) line × Each P k
 Each P (map_read line m name k) = P (MapRead m name) line × Each P k
-Each P (use_of line l k) = P (uses l) line × Each P k
+Each P (use_of line l k) = P (Use l) line × Each P k
 Each P (branch line node a b k) = ((first : ℕ) × (second : ℕ) × P (If node first second) line) × Each P a × Each P b × Each P k
 Each P (while line node most b k) = ((lines : ℕ) × P (While node lines most) line) × Each P b × Each P k
 
 pub each_all : (P : Statement → ℕ → Type 0) → ((st : Statement) (line : ℕ) → P st line) → (c : Code) → Each P c
 each_all P h finish = tt
-each_all P h (read line l k) = (h (reads l) line, each_all P h k)
+each_all P h (read line l k) = (h (Read l) line, each_all P h k)
 each_all P h (assign line name node k) = (h (Assign name node) line, each_all P h k)
 each_all P h (map_read line m name k) = (h (MapRead m name) line, each_all P h k)
-each_all P h (use_of line l k) = (h (uses l) line, each_all P h k)
+each_all P h (use_of line l k) = (h (Use l) line, each_all P h k)
 each_all P h (branch line node a b k) = ((0, 0, h (If node 0 0) line), each_all P h a, each_all P h b, each_all P h k)
 each_all P h (while line node most b k) = ((0, h (While node 0 most) line), each_all P h b, each_all P h k)
 
@@ -62,10 +53,10 @@ module _ (P : Statement → ℕ → Type 0) where
   coded_each : (st : Statement) (at k : ℕ) (block : ℕ → ℕ → Code) → P st at →
       ((m n : ℕ) → at < m → m + n ≤ at + suc k → Each P (block m n)) → Each P (coded st at k block)
   unfolding coded
-  coded_each (Read signed width name count alignment ahead lowest highest) at k block p h = (p, h (suc at) k (omega arith) (omega arith))
+  coded_each (Read fields) at k block p h = (p, h (suc at) k (omega arith) (omega arith))
   coded_each (Assign name node) at k block p h = (p, h (suc at) k (omega arith) (omega arith))
   coded_each (MapRead map name) at k block p h = (p, h (suc at) k (omega arith) (omega arith))
-  coded_each (Use class count least most carried receiving) at k block p h = (p, h (suc at) k (omega arith) (omega arith))
+  coded_each (Use fields) at k block p h = (p, h (suc at) k (omega arith) (omega arith))
   coded_each (If node first second) at k block p h =
       ((first, second, p), h _ _ (omega arith) (omega arith), h _ _ (omega arith) (omega arith), h _ _ (omega arith) (omega arith))
   coded_each (While node lines rounds) at k block p h = ((lines, p), h _ _ (omega arith) (omega arith), h _ _ (omega arith) (omega arith))
@@ -85,12 +76,10 @@ module _ (P : Statement → ℕ → Type 0) where
 pub coded_same : (st : Statement) (at k : ℕ) (block block' : ℕ → ℕ → Code) →
     ((m n : ℕ) → at < m → m + n ≤ at + suc k → block m n ≡ block' m n) → coded st at k block ≡ coded st at k block'
 unfolding coded
-coded_same (Read signed width name count alignment ahead lowest highest) at k block block' h =
-    ap (read at (record { signed = signed; width = width; name = name; count = count; alignment = alignment; ahead = ahead; lowest = lowest; highest = highest })) (h (suc at) k (omega arith) (omega arith))
+coded_same (Read fields) at k block block' h = ap (read at fields) (h (suc at) k (omega arith) (omega arith))
 coded_same (Assign name node) at k block block' h = ap (assign at name node) (h (suc at) k (omega arith) (omega arith))
 coded_same (MapRead map name) at k block block' h = ap (map_read at map name) (h (suc at) k (omega arith) (omega arith))
-coded_same (Use class count least most carried receiving) at k block block' h =
-    ap (use_of at (record { class = class; count = count; least = least; most = most; carried = carried; receiving = receiving })) (h (suc at) k (omega arith) (omega arith))
+coded_same (Use fields) at k block block' h = ap (use_of at fields) (h (suc at) k (omega arith) (omega arith))
 coded_same (If node first second) at k block block' h =
     let m = min first k in
     let n = min second (k - m) in
@@ -156,15 +145,15 @@ module _ (older newer : Description) (gr : Grown older newer) where
     abbrev pub Agree : Names → Names → Type 0
     Agree new old = (m : ℕ) → m ≤ length older.names → new m ≡ old m
 
-    term_value_same : (k : ℕ) (t : Term) (size : ℕ) (new old : Names) (f g : ℕ → Check ℤ) → Agree new old → TermSound older t →
+    term_value_same : (k : ℕ) (t : Option Term) (size : ℕ) (new old : Names) (f g : ℕ → Check ℤ) → Agree new old → TermSound older t →
         ((j : ℕ) → f j ≡ g j) → term_value k t new size f ≡ term_value k t old size g
     unfolding term_value
-    term_value_same k (Constant v) size new old f g ag ok e = refl
-    term_value_same k (Named n) size new old f g ag ok e = ap (λ z. Ok z) (ag n ok)
-    term_value_same k OwnSize size new old f g ag ok e = refl
-    term_value_same k (Apply operator left right) size new old f g ag ok e =
+    term_value_same k (Some (Constant v)) size new old f g ag ok e = refl
+    term_value_same k (Some (Named n)) size new old f g ag ok e = ap (λ z. Ok z) (ag n ok)
+    term_value_same k (Some OwnSize) size new old f g ag ok e = refl
+    term_value_same k (Some (Apply operator left right)) size new old f g ag ok e =
         λ i. then (e left i) λ x. then (e right i) λ y. of_node k (applied operator x y)
-    term_value_same k NoTerm size new old f g ag ok e = refl
+    term_value_same k None size new old f g ag ok e = refl
 
     module _ (size : ℕ) (new old : Names) (ag : Agree new old) where
       within_same : (f k : ℕ) → k ≤ length older.nodes → value_within f newer.nodes size new k ≡ value_within f older.nodes size old k

@@ -10,7 +10,7 @@ use Rattle.rules.specs.Trace.{Run, out, pass, stop, done, bind, items, outcome, 
 use Rattle.rules.specs.Checks.{Check, ensure, pick, attempt}
 use Rattle.rules.specs.Lookups.{greatest, object_class}
 use Rattle.rules.specs.Values.{is_zero}
-use Rattle.rules.specs.declared.lines.UseLine.{UseLine}
+use Rattle.records.specs.declared.statements.UseLine.{UseLine}
 use Rattle.rules.specs.Code.{Code, finish, read, assign, map_read, use_of, branch, while, code}
 use Rattle.rules.specs.declared.steps.Window.{Window}
 use Rattle.rules.specs.Steps.{header, next_multiple}

@@ -4,8 +4,8 @@ use Rattle.records.specs.declared.records.Line.{Line}
 use Rattle.records.specs.declared.statements.Statement.{Statement}
 use Rattle.records.specs.declared.statements.Statement.TheVariants.{Read, Assign, MapRead, Use, If, While, Unknown}
 use Rattle.records.specs.Statements.{statement}
-use Rattle.rules.specs.declared.lines.ReadLine.{ReadLine}
-use Rattle.rules.specs.declared.lines.UseLine.{UseLine}
+use Rattle.records.specs.declared.statements.ReadLine.{ReadLine}
+use Rattle.records.specs.declared.statements.UseLine.{UseLine}
 use Rattle.table.specs.Description.{entry, no_line}
 
 pub data Code : Type 0 where
@@ -24,37 +24,13 @@ pub data Code : Type 0 where
   -- the block as long as the node is true, at most so many rounds; then the rest
   while : (line node rounds : ℕ) → (block rest : Code) → Code
 
--- the name that a line writes, 0 if none
-abbrev pub written : Statement → ℕ
-written (Read signed width name count alignment ahead lowest highest) = name
-written (Assign name node) = name
-written (MapRead map name) = name
-written (Use class count least most carried receiving) = receiving
-written (If node first second) = 0
-written (While node lines rounds) = 0
-written Unknown = 0
-
 -- the code of a statement, which is line `at`, with k more lines in its block; `block` is the code of so many lines from a line on.
 -- Blocks follow their line directly, and end where what holds them ends.
 unfoldable pub coded : Statement → (at k : ℕ) (block : ℕ → ℕ → Code) → Code
-coded (Read signed width name count alignment ahead lowest highest) at k block =
-    let r : ReadLine =
-    record {
-      signed = signed;
-      width = width;
-      name = name;
-      count = count;
-      alignment = alignment;
-      ahead = ahead;
-      lowest = lowest;
-      highest = highest;
-    } in
-    read at r (block (suc at) k)
+coded (Read fields) at k block = read at fields (block (suc at) k)
 coded (Assign name node) at k block = assign at name node (block (suc at) k)
 coded (MapRead map name) at k block = map_read at map name (block (suc at) k)
-coded (Use class count least most carried receiving) at k block =
-    let u : UseLine = record { class = class; count = count; least = least; most = most; carried = carried; receiving = receiving } in
-    use_of at u (block (suc at) k)
+coded (Use fields) at k block = use_of at fields (block (suc at) k)
 coded (If node first second) at k block =
     let m = min first k in
     let n = min second (k - m) in

@@ -1,6 +1,7 @@
 -- An older and a newer description: when the newer has grown from the older, what is struck of the newer's items, and how the two
 -- readings compare.
 use Rattle.std.specs.Prelude.{◌≡◌, ℕ, suc, pred, ◌<◌, ◌≤◌, Bool, true, false, cond, not, ◌&&◌, ◌||◌, T, ◌⊎◌, List, [], ◌∷◌, ◌++◌, length, drop, ◌==◌, nat_le, nat_lt}
+use Rattle.std.specs.List.{list_all}
 use Rattle.records.specs.declared.records.Class.{Class}
 use Rattle.records.specs.declared.records.Name.{Name}
 use Rattle.records.specs.declared.records.Extension.{Extension}
@@ -9,14 +10,13 @@ use Rattle.records.specs.declared.records.Node.{Node}
 use Rattle.records.specs.declared.records.Map.{Map}
 use Rattle.records.specs.declared.records.Row.{Row}
 use Rattle.records.specs.Classes.{is_member}
-use Rattle.records.specs.Statements.{statement}
+use Rattle.records.specs.Statements.{statement, written}
 use Rattle.table.specs.Description.{Description, entry, no_class, class_at, line_at}
 use Rattle.rules.specs.declared.items.Item.{Item}
 use Rattle.rules.specs.declared.items.Kind.{Kind}
 use Rattle.rules.specs.declared.items.Kind.TheVariants.{Value, Open, Close}
 use Rattle.rules.specs.declared.faults.ReadingFault.{ReadingFault}
 use Rattle.rules.specs.Trace.{Run, items, outcome, Outcome, ended, refused}
-use Rattle.rules.specs.Code.{written}
 use Rattle.rules.specs.Reading.{reading}
 use Rattle.rules.specs.Tidy.{tidy_reading}
 use Rattle.checked.specs.Sound.{All}
@@ -128,10 +128,6 @@ stands fields [] ys = true
 stands fields (x ∷ xs) [] = false
 stands fields (x ∷ xs) (y ∷ ys) = same_numbers (fields x) (fields y) && stands fields xs ys
 
-unfoldable pub every : {A : Type 0} → (A → Bool) → List A → Bool
-every test [] = true
-every test (x ∷ xs) = test x && every test xs
-
 -- a new member of an older family is in an expandable one; `classes` are the older's
 abbrev pub member_grown : (classes : List Class) → Class → Bool
 member_grown classes c = not (is_member c && nat_le c.base (length classes)) || nat_lt 0 (entry classes c.base no_class).greatest
@@ -154,11 +150,11 @@ unchanged older newer =
 
 -- each new member of an older family is in an expandable one
 abbrev pub new_members_fit : (older newer : Description) → Bool
-new_members_fit older newer = every (member_grown older.classes) (drop (length older.classes) newer.classes)
+new_members_fit older newer = list_all (member_grown older.classes) (drop (length older.classes) newer.classes)
 
 -- each new line writes only new names
 abbrev pub new_lines_fit : (older newer : Description) → Bool
-new_lines_fit older newer = every (line_grown (length older.names)) (drop (length older.lines) newer.lines)
+new_lines_fit older newer = list_all (line_grown (length older.names)) (drop (length older.lines) newer.lines)
 
 -- whether a newer description has grown from an older one
 unfoldable pub grown : (older newer : Description) → Bool

@@ -12,6 +12,14 @@ kind_number Value = 1
 kind_number Open = 2
 kind_number Close = 3
 
+-- a kind where the number is its own, or else
+abbrev pub kind_or : Kind → ℕ → Option Kind → Option Kind
+kind_or k n else = cond (n == kind_number k) (Some k) else
+
+-- the kind that has a number
+abbrev pub kind_with : ℕ → Option Kind
+kind_with n = kind_or Value n (kind_or Open n (kind_or Close n None))
+
 -- 0 never comes of a checked description
 abbrev pub reading_cause_number : ReadingCause → ℕ
 reading_cause_number Unchecked = 0

@@ -18,10 +18,10 @@ use Rattle.rules.specs.Passed.{PassesCheck}
 
 -- the class that a line uses, 0 if none; line 0 is the top object's
 abbrev pub used_by : Statement → ℕ
-used_by (Read signed width name count alignment ahead lowest highest) = 0
+used_by (Read fields) = 0
 used_by (Assign name node) = 0
 used_by (MapRead map name) = 0
-used_by (Use class count least most carried receiving) = class
+used_by (Use fields) = fields.class
 used_by (If node first second) = 0
 used_by (While node lines rounds) = 0
 used_by Unknown = 0
@@ -43,10 +43,10 @@ WithinBits true n (negsuc k) = k < 2 ^ (n - 1)
 
 -- a value that a line reads lies within its bits; that of a map is the output at some index of the map's width
 abbrev pub ValueFits : Description → Statement → ℤ → (length : ℕ) → Type 0
-ValueFits d (Read signed width name count alignment ahead lowest highest) v n = (n ≤ 32) × WithinBits signed n v
+ValueFits d (Read fields) v n = (n ≤ 32) × WithinBits fields.signed n v
 ValueFits d (Assign name node) v n = ⊥
 ValueFits d (MapRead map name) v n = (n ≡ (map_at d map).width) × (index : ℕ) × (index < 2 ^ n) × (map_output d map index ≡ Ok v)
-ValueFits d (Use class count least most carried receiving) v n = ⊥
+ValueFits d (Use fields) v n = ⊥
 ValueFits d (If node first second) v n = ⊥
 ValueFits d (While node lines rounds) v n = ⊥
 ValueFits d Unknown v n = ⊥

@@ -13,8 +13,8 @@ use Rattle.rules.specs.declared.steps.Header.{Header}
 use Rattle.rules.specs.declared.steps.Got.{Got}
 use Rattle.rules.specs.declared.steps.Window.{Window}
 use Rattle.rules.specs.Steps.{aligned, natural, element, mapped, header, at_end, next_multiple}
-use Rattle.rules.specs.declared.lines.UseLine.{UseLine}
-use Rattle.rules.specs.declared.lines.ReadLine.{ReadLine}
+use Rattle.records.specs.declared.statements.UseLine.{UseLine}
+use Rattle.records.specs.declared.statements.ReadLine.{ReadLine}
 use Rattle.rules.specs.Code.{Code, finish, read, assign, map_read, use_of, branch, while, code}
 
 -- the place of a reading, and the names of the innermost open object

@@ -9,7 +9,7 @@ use Rattle.rules.specs.declared.steps.Window.{Window}
 use Rattle.rules.specs.declared.steps.Got.{Got}
 use Rattle.rules.specs.declared.steps.Header.{Header}
 use Rattle.rules.specs.Checks.{Check, then, fails, ensure, pick}
-use Rattle.rules.specs.declared.lines.ReadLine.{ReadLine}
+use Rattle.records.specs.declared.statements.ReadLine.{ReadLine}
 
 -- the window must have n bits from a place on
 abbrev pub enough : Window → (p n : ℕ) → Check (Unit {0})
@@ -43,15 +43,18 @@ natural most v = then v λ z. then (ensure (int_le (pos 0) z && int_le z (pos mo
 abbrev pub signed : (n raw : ℕ) → ℤ
 signed n raw = cond (nat_lt 0 n && nat_le (2 ^ (n - 1)) raw) (pos raw -ℤ pos (2 ^ n)) (pos raw)
 
--- a value must not lie below its lowest, which is worked out here; node 0 sets no bound
+-- a value must keep to a bound, which is worked out here; node 0 sets none
+abbrev pub bounded : (bound_node : ℕ) → Check ℤ → (ℤ → Bool) → Check (Unit {0})
+bounded zero bound kept = Ok tt
+bounded (suc n) bound kept = then bound λ b. ensure (kept b) OutsideBounds
+
+-- a value must not lie below its lowest
 abbrev pub at_least : (bound_node : ℕ) → Check ℤ → ℤ → Check (Unit {0})
-at_least zero bound v = Ok tt
-at_least (suc n) bound v = then bound λ low. ensure (int_le low v) OutsideBounds
+at_least node bound v = bounded node bound (λ low. int_le low v)
 
 -- nor above its highest
 abbrev pub at_most : (bound_node : ℕ) → Check ℤ → ℤ → Check (Unit {0})
-at_most zero bound v = Ok tt
-at_most (suc n) bound v = then bound λ high. ensure (int_le v high) OutsideBounds
+at_most node bound v = bounded node bound (λ high. int_le v high)
 
 -- one element of a read: alignment, width, bits, lowest, highest; with look-ahead only the alignment is consumed
 unfoldable pub element : List Bool → Window → ReadLine → (width low high : Check ℤ) → (p : ℕ) → Check Got

@@ -1,5 +1,5 @@
 -- The value of a node, from the values of earlier nodes.
-use Rattle.std.specs.Prelude.{◌≡◌, ℕ, zero, suc, ◌^◌, Bool, true, false, cond, not, ◌&&◌, ◌||◌, List, ℤ, pos, negsuc, ◌+ℤ◌, ◌-ℤ◌, ◌*ℤ◌, Ok, Err, Result, ◌==◌, bit_and, bit_or, int_div, int_le, int_lt, int_rem, nat_lt, unsigned_abs}
+use Rattle.std.specs.Prelude.{◌≡◌, ℕ, zero, suc, ◌^◌, Bool, true, false, cond, not, ◌&&◌, ◌||◌, List, ℤ, pos, negsuc, Some, None, Option, ◌+ℤ◌, ◌-ℤ◌, ◌*ℤ◌, Ok, Err, Result, ◌==◌, bit_and, bit_or, int_div, int_le, int_lt, int_rem, nat_lt, unsigned_abs}
 use Rattle.std.specs.Int.Signed.{shr_z}
 use Rattle.records.specs.declared.records.Node.{Node}
 use Rattle.table.specs.Description.{entry, no_node}
@@ -8,7 +8,7 @@ use Rattle.rules.specs.declared.faults.ReadingCause.TheVariants.{Unchecked, OutO
 use Rattle.rules.specs.declared.terms.Operator.{Operator}
 use Rattle.rules.specs.declared.terms.Operator.TheVariants.{Multiply, Divide, Remainder, Add, Subtract, ShiftLeft, ShiftRight, Less, AtMost, Greater, AtLeast, Equal, Unequal, BitAnd, BitOr, And, Or}
 use Rattle.rules.specs.declared.terms.Term.{Term}
-use Rattle.rules.specs.declared.terms.Term.TheVariants.{Constant, Named, OwnSize, Apply, NoTerm}
+use Rattle.rules.specs.declared.terms.Term.TheVariants.{Constant, Named, OwnSize, Apply}
 use Rattle.rules.specs.Terms.{term}
 use Rattle.rules.specs.Checks.{Check, fails, pick, then}
 
@@ -80,14 +80,14 @@ of_node k (Err cause) = Err (record { cause = cause; node = k })
 abbrev pub Names : Type 0
 Names = ℕ → ℤ
 
--- node k, which is a term, from the names' values, the own object's size and the values of earlier nodes: left first, always both
-unfoldable pub term_value : (k : ℕ) → Term → Names → (size : ℕ) → (earlier : ℕ → Check ℤ) → Check ℤ
-term_value k (Constant v) names size earlier = Ok (pos v)
-term_value k (Named n) names size earlier = Ok (names n)
-term_value k OwnSize names size earlier = Ok (pos size)
-term_value k (Apply operator left right) names size earlier =
+-- node k, which is a term or none, from the names' values, the own object's size and the values of earlier nodes: left first, always both
+unfoldable pub term_value : (k : ℕ) → Option Term → Names → (size : ℕ) → (earlier : ℕ → Check ℤ) → Check ℤ
+term_value k (Some (Constant v)) names size earlier = Ok (pos v)
+term_value k (Some (Named n)) names size earlier = Ok (names n)
+term_value k (Some OwnSize) names size earlier = Ok (pos size)
+term_value k (Some (Apply operator left right)) names size earlier =
     then (earlier left) λ x. then (earlier right) λ y. of_node k (applied operator x y)
-term_value k NoTerm names size earlier = fails Unchecked
+term_value k None names size earlier = fails Unchecked
 
 -- the value of a node before node k
 abbrev pub before : (k : ℕ) → (ℕ → Check ℤ) → ℕ → Check ℤ

@@ -1,15 +1,19 @@
 ghost use Rattle.std.specs.Prelude.{◌≡◌};
-ghost use Rattle.rules.specs.Numbers.{kind_number};
+ghost use Rattle.std.specs.Option.{ok_or};
+ghost use Rattle.rules.specs.Numbers.{kind_number, kind_with};
+
+use std::error::Error;
+use std::fmt;
 
 // The kinds of item.
 #[derive(Clone, Copy, PartialEq, Eq, Debug)]
 pub enum Kind {
     // a value was read
-    Value,
+    Value = 1,
     // an object begins
-    Open,
+    Open = 2,
     // an object ends
-    Close,
+    Close = 3,
 }
 
 impl Kind {
@@ -17,10 +21,36 @@ impl Kind {
     pub fn number(self) -> u16
         ensures { result ≡ kind_number self }
     {
-        match self {
-            Kind::Value => 1,
-            Kind::Open => 2,
-            Kind::Close => 3,
+        self as u16
+    }
+}
+
+// A number that no kind of item has.
+#[derive(Clone, Copy, PartialEq, Eq, Debug)]
+pub struct UnknownKind {
+    pub number: u16,
+}
+
+impl fmt::Display for UnknownKind {
+    fn fmt<W: fmt::Write>(&self, f: &mut fmt::Formatter<W>) -> fmt::Result {
+        write!(f, "no kind of item has the number {}", self.number)
+    }
+}
+
+impl Error for UnknownKind {}
+
+// The kind with a number.
+impl TryFrom<u16> for Kind {
+    type Error = UnknownKind;
+
+    ghost try_from_gives = { λ number result. result ≡ ok_or (kind_with number) (record { number = number }) };
+
+    fn try_from(number: u16) -> Result<Kind, UnknownKind> {
+        match number {
+            1 => Ok(Kind::Value),
+            2 => Ok(Kind::Open),
+            3 => Ok(Kind::Close),
+            _ => Err(UnknownKind { number }),
         }
     }
 }

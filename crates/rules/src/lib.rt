@@ -4,7 +4,7 @@
 pub mod faults;
 pub mod items;
 pub mod laws;
-pub mod lines;
+pub mod lookups;
 pub mod messages;
 pub mod steps;
 pub mod terms;

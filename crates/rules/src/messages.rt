@@ -6,25 +6,31 @@ use std::fmt;
 // Seven numbers: kind, line, class, index, value, place, length.
 impl fmt::Display for Item {
     fn fmt<W: fmt::Write>(&self, f: &mut fmt::Formatter<W>) -> fmt::Result {
-        let kind = self.kind.number();
-        let line = self.line;
-        let class = self.class;
-        let index = self.index;
-        let value = self.value;
-        let place = self.place;
-        let length = self.length;
-        write!(f, "{kind} {line} {class} {index} {value} {place} {length}")
+        write!(
+            f,
+            "{} {} {} {} {} {} {}",
+            self.kind.number(),
+            self.line,
+            self.class,
+            self.index,
+            self.value,
+            self.place,
+            self.length
+        )
     }
 }
 
 // Four numbers: cause, line, node, place.
 impl fmt::Display for ReadingFault {
     fn fmt<W: fmt::Write>(&self, f: &mut fmt::Formatter<W>) -> fmt::Result {
-        let cause = self.cause.number();
-        let line = self.line;
-        let node = self.node;
-        let place = self.place;
-        write!(f, "{cause} {line} {node} {place}")
+        write!(
+            f,
+            "{} {} {} {}",
+            self.cause.number(),
+            self.line,
+            self.node,
+            self.place
+        )
     }
 }
 

@@ -1,29 +1,32 @@
-ghost use Rattle.std.specs.Prelude.{◌≡◌, Option};
+ghost use Rattle.std.specs.Prelude.{◌≡◌};
+ghost use Rattle.std.specs.Option.{ok_or};
 ghost use Rattle.rules.specs.Numbers.{operator_number, operator_with};
 ghost use Rattle.rules.specs.Terms.{term};
 
 use records::records::Node;
+use std::error::Error;
+use std::fmt;
 
-// The operators on two values.
-#[derive(Clone, Copy)]
+// The operators on two values, with the number of each in a node.
+#[derive(Clone, Copy, PartialEq, Eq, Debug)]
 pub enum Operator {
-    Multiply,
-    Divide,
-    Remainder,
-    Add,
-    Subtract,
-    ShiftLeft,
-    ShiftRight,
-    Less,
-    AtMost,
-    Greater,
-    AtLeast,
-    Equal,
-    Unequal,
-    BitAnd,
-    BitOr,
-    And,
-    Or,
+    Multiply = 4,
+    Divide = 5,
+    Remainder = 6,
+    Add = 7,
+    Subtract = 8,
+    ShiftLeft = 9,
+    ShiftRight = 10,
+    Less = 11,
+    AtMost = 12,
+    Greater = 13,
+    AtLeast = 14,
+    Equal = 15,
+    Unequal = 16,
+    BitAnd = 17,
+    BitOr = 18,
+    And = 19,
+    Or = 20,
 }
 
 impl Operator {
@@ -31,56 +34,56 @@ impl Operator {
     pub fn number(self) -> u16
         ensures { result ≡ operator_number self }
     {
-        match self {
-            Operator::Multiply => 4,
-            Operator::Divide => 5,
-            Operator::Remainder => 6,
-            Operator::Add => 7,
-            Operator::Subtract => 8,
-            Operator::ShiftLeft => 9,
-            Operator::ShiftRight => 10,
-            Operator::Less => 11,
-            Operator::AtMost => 12,
-            Operator::Greater => 13,
-            Operator::AtLeast => 14,
-            Operator::Equal => 15,
-            Operator::Unequal => 16,
-            Operator::BitAnd => 17,
-            Operator::BitOr => 18,
-            Operator::And => 19,
-            Operator::Or => 20,
-        }
+        self as u16
     }
+}
 
-    // The operator with a number, if there is one.
-    pub fn with_number(number: u16) -> Option<Operator>
-        ensures { result ≡ operator_with number }
-    {
+// A number that no operator has.
+#[derive(Clone, Copy, PartialEq, Eq, Debug)]
+pub struct UnknownOperator {
+    pub number: u16,
+}
+
+impl fmt::Display for UnknownOperator {
+    fn fmt<W: fmt::Write>(&self, f: &mut fmt::Formatter<W>) -> fmt::Result {
+        write!(f, "no operator has the number {}", self.number)
+    }
+}
+
+impl Error for UnknownOperator {}
+
+// The operator with a number.
+impl TryFrom<u16> for Operator {
+    type Error = UnknownOperator;
+
+    ghost try_from_gives = { λ number result. result ≡ ok_or (operator_with number) (record { number = number }) };
+
+    fn try_from(number: u16) -> Result<Operator, UnknownOperator> {
         match number {
-            4 => Some(Operator::Multiply),
-            5 => Some(Operator::Divide),
-            6 => Some(Operator::Remainder),
-            7 => Some(Operator::Add),
-            8 => Some(Operator::Subtract),
-            9 => Some(Operator::ShiftLeft),
-            10 => Some(Operator::ShiftRight),
-            11 => Some(Operator::Less),
-            12 => Some(Operator::AtMost),
-            13 => Some(Operator::Greater),
-            14 => Some(Operator::AtLeast),
-            15 => Some(Operator::Equal),
-            16 => Some(Operator::Unequal),
-            17 => Some(Operator::BitAnd),
-            18 => Some(Operator::BitOr),
-            19 => Some(Operator::And),
-            20 => Some(Operator::Or),
-            _ => None,
+            4 => Ok(Operator::Multiply),
+            5 => Ok(Operator::Divide),
+            6 => Ok(Operator::Remainder),
+            7 => Ok(Operator::Add),
+            8 => Ok(Operator::Subtract),
+            9 => Ok(Operator::ShiftLeft),
+            10 => Ok(Operator::ShiftRight),
+            11 => Ok(Operator::Less),
+            12 => Ok(Operator::AtMost),
+            13 => Ok(Operator::Greater),
+            14 => Ok(Operator::AtLeast),
+            15 => Ok(Operator::Equal),
+            16 => Ok(Operator::Unequal),
+            17 => Ok(Operator::BitAnd),
+            18 => Ok(Operator::BitOr),
+            19 => Ok(Operator::And),
+            20 => Ok(Operator::Or),
+            _ => Err(UnknownOperator { number }),
         }
     }
 }
 
 // A node with its fields by name.
-#[derive(Clone, Copy)]
+#[derive(Clone, Copy, PartialEq, Eq, Debug)]
 pub enum Term {
     // the constant
     Constant {
@@ -98,27 +101,26 @@ pub enum Term {
         left: u16,
         right: u16,
     },
-    // an operator that there is not
-    NoTerm,
 }
 
 // The node's fields, by the names that they have at its operator.
-pub fn term_of(node: Node) -> Term
-    ensures { result ≡ term node }
-{
-    match node.op {
-        1 => Term::Constant {
-            value: u32::from(node.a) * 65536 + u32::from(node.b),
-        },
-        2 => Term::Named { name: node.a },
-        3 => Term::OwnSize,
-        number => match Operator::with_number(number) {
-            Some(operator) => Term::Apply {
-                operator,
+impl TryFrom<Node> for Term {
+    type Error = UnknownOperator;
+
+    ghost try_from_gives = { λ node result. result ≡ ok_or (term node) (record { number = node.op }) };
+
+    fn try_from(node: Node) -> Result<Term, UnknownOperator> {
+        match node.op {
+            1 => Ok(Term::Constant {
+                value: u32::from(node.a) * 65536 + u32::from(node.b),
+            }),
+            2 => Ok(Term::Named { name: node.a }),
+            3 => Ok(Term::OwnSize),
+            number => Ok(Term::Apply {
+                operator: Operator::try_from(number)?,
                 left: node.a,
                 right: node.b,
-            },
-            None => Term::NoTerm,
-        },
+            }),
+        }
     }
 }

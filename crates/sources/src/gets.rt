@@ -1,6 +1,7 @@
 ghost use Rattle.std.specs.Prelude.{◌≡◌, ◌≤◌};
 
-use crate::tally::{Tally, bit_at};
+use crate::expected::expected_get;
+use crate::tally::{Tally, compare};
 use bits::bytes::Bytes;
 use bits::join::Join;
 use bits::refusal::Refusal;
@@ -10,14 +11,14 @@ use bits::words::Words;
 
 // The gets over bytes, and over words of the same bits.
 pub(crate) fn over_numbers(bytes: &[u8], words: &[u32]) -> Result<Tally, Refusal> {
-    let first = compare(&Bytes::new(bytes)?, bytes, 0, 96);
-    Ok(first.plus(compare(&Words::new(words)?, bytes, 0, 96)))
+    let first = compare_gets(&Bytes::new(bytes)?, bytes, 0, 96);
+    Ok(first + compare_gets(&Words::new(words)?, bytes, 0, 96))
 }
 
 // The gets over a window of bytes.
 pub(crate) fn over_window(bytes: &[u8]) -> Result<Tally, Refusal> {
     let window = Window::new(Bytes::new(bytes)?, 5, 77)?;
-    Ok(compare(&window, bytes, 5, 77))
+    Ok(compare_gets(&window, bytes, 5, 77))
 }
 
 // The gets over a join of a window of bytes and one of words, and over a reference to it.
@@ -25,8 +26,8 @@ pub(crate) fn over_join(bytes: &[u8], words: &[u32]) -> Result<Tally, Refusal> {
     let front = Window::new(Bytes::new(bytes)?, 0, 37)?;
     let back = Window::new(Words::new(words)?, 37, 59)?;
     let join = Join::new(front, back)?;
-    let first = compare(&join, bytes, 0, 96);
-    Ok(first.plus(compare(&&join, bytes, 0, 96)))
+    let first = compare_gets(&join, bytes, 0, 96);
+    Ok(first + compare_gets(&&join, bytes, 0, 96))
 }
 
 // The gets over a window of a join of windows.
@@ -34,7 +35,7 @@ pub(crate) fn over_window_of_join(bytes: &[u8], words: &[u32]) -> Result<Tally, 
     let front = Window::new(Bytes::new(bytes)?, 3, 50)?;
     let back = Window::new(Words::new(words)?, 53, 43)?;
     let window = Window::new(Join::new(front, back)?, 10, 71)?;
-    Ok(compare(&window, bytes, 13, 71))
+    Ok(compare_gets(&window, bytes, 13, 71))
 }
 
 // The gets over a join of bytes and of a join of words and bytes, through references.
@@ -43,7 +44,7 @@ pub(crate) fn over_join_of_join(bytes: &[u8], words: &[u32]) -> Result<Tally, Re
     let inner = Join::new(Words::new(words)?, &whole)?;
     let join = Join::new(Window::new(&whole, 80, 16)?, &inner)?;
     let window = Window::new(&join, 16, 96)?;
-    Ok(compare(&window, bytes, 0, 96))
+    Ok(compare_gets(&window, bytes, 0, 96))
 }
 
 // A window that goes one bit past the end of twelve bytes.
@@ -54,39 +55,15 @@ pub(crate) fn past_end(bytes: &[u8]) -> Result<u32, Refusal> {
 
 // Compares the gets at places 0 to 70 of widths 0 to 33 with readings bit by bit. The source
 // should have the `length` bits of the bytes from place `first`.
-fn compare<S: Source>(source: &S, bytes: &[u8], first: u32, length: u32) -> Tally
+fn compare_gets<S: Source>(source: &S, bytes: &[u8], first: u32, length: u32) -> Tally
     requires { first ≤ 1000 }
     ensures { (result.compared ≡ 2414) × (result.different ≤ 2414) }
 {
-    let mut compared = 0;
-    let mut different = 0;
-    for p in 0..71u32 {
-        for n in 0..34u32 {
-            if source.get(p, n) != expected(bytes, first, length, p, n) {
-                different += 1;
-            }
-            compared += 1;
-        }
-    }
-    Tally {
-        compared,
-        different,
-    }
-}
-
-// What a get should answer, read bit by bit.
-fn expected(bytes: &[u8], first: u32, length: u32, p: u32, n: u32) -> Result<u64, Refusal>
-    requires { (first ≤ 1000) × ((p ≤ 1000) × (n ≤ 1000)) }
-{
-    if n > 32 {
-        return Err(Refusal::TooWide);
-    }
-    if p + n > length {
-        return Err(Refusal::PastEnd);
-    }
-    let mut value = 0;
-    for i in 0..n {
-        value = value << 1 | bit_at(bytes, first + p + i);
-    }
-    Ok(value)
+    compare(
+        71,
+        34,
+        |p: u32, n: u32|
+            requires { (first ≤ 1000) × (p ≤ 1000) × (n ≤ 1000) }
+        { source.get(p, n) != expected_get(bytes, first, length, p, n) },
+    )
 }

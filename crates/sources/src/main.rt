@@ -1,6 +1,7 @@
 // Compares sources of every kind, and stored bits, with readings bit by bit.
 #![tactic(auto)]
 
+mod expected;
 mod gets;
 mod joined;
 mod puts;

@@ -1,6 +1,7 @@
-ghost use Rattle.std.specs.Prelude.{◌≡◌, ◌+◌, ◌<◌};
+ghost use Rattle.std.specs.Prelude.{◌≡◌, ℕ, ◌+◌, ◌*◌, ◌<◌, ◌≤◌};
 
 use std::fmt;
+use std::ops::Add;
 
 // How many answers were compared, and how many of them differed.
 #[derive(Clone, Copy)]
@@ -9,12 +10,15 @@ pub struct Tally {
     pub different: u32,
 }
 
-impl Tally {
-    // Both together.
-    pub(crate) fn plus(self, other: Tally) -> Tally
-        requires { (self.compared + other.compared < 4294967296) × (self.different + other.different < 4294967296) }
-        ensures { (result.compared ≡ self.compared + other.compared) × (result.different ≡ self.different + other.different) }
-    {
+// Both together.
+impl Add for Tally {
+    type Output = Tally;
+
+    ghost can_add = { λ s t. (s.compared + t.compared < 4294967296) × (s.different + t.different < 4294967296) };
+
+    ghost add_gives = { λ s t r. (r.compared ≡ s.compared + t.compared) × (r.different ≡ s.different + t.different) };
+
+    fn add(self, other: Tally) -> Tally {
         Tally {
             compared: self.compared + other.compared,
             different: self.different + other.different,
@@ -30,11 +34,27 @@ impl fmt::Display for Tally {
     }
 }
 
+// Compares the answers at all places below `places` and of all widths below `widths`.
+pub(crate) fn compare<F: Fn(u32, u32) -> bool>(places: u32, widths: u32, differs: F) -> Tally
+    requires few { (places ≤ 1000) × (widths ≤ 1000) }
+    requires callable { (p n : ℕ) → p < places → n < widths → F.pre differs p n }
+    ensures { (result.compared ≡ places * widths) × (result.different ≤ places * widths) }
+{
+    let mut different = 0;
+    for p in 0..places {
+        for n in 0..widths {
+            different += u32::from(differs(p, n));
+        }
+    }
+    Tally {
+        compared: places * widths,
+        different,
+    }
+}
+
 // The bit at a place of some bytes, the most significant of each byte first; 0 past their end.
 pub(crate) fn bit_at(bytes: &[u8], place: u32) -> u64 {
-    let i = (place / 8) as usize;
-    if i >= bytes.len() {
-        return 0;
-    }
-    (bytes[i] >> (7 - place % 8)) as u64 & 1
+    bytes
+        .get((place / 8) as usize)
+        .map_or(0, |byte| u64::from(byte >> (7 - place % 8) & 1))
 }

@@ -1,7 +1,7 @@
 -- An element of a read, step by step.
 use Rattle.std.proofs.Common.{◌≡◌, ℕ, ◌+◌, Bool, cond, eqb, List, ℤ, pos, Ok, Err}
 use Rattle.rules.specs.declared.faults.Failure.{Failure}
-use Rattle.rules.specs.declared.lines.ReadLine.{ReadLine}
+use Rattle.records.specs.declared.statements.ReadLine.{ReadLine}
 use Rattle.rules.specs.declared.steps.Window.{Window}
 use Rattle.rules.specs.Checks.{Check, then}
 use Rattle.rules.specs.Steps.{aligned, natural, taken, signed, at_least, at_most, element}

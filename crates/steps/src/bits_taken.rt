@@ -1,6 +1,7 @@
 ghost use Rattle.std.specs.Prelude.{◌≡◌, ℕ, ◌+◌, ◌^◌, ◌<◌, ◌≤◌, length, IfOk};
 ghost use Rattle.rules.specs.Steps.{taken, aligned, ends, next_multiple};
 
+use crate::view::View;
 use bits::source::Source;
 use bits::zero::is_zero;
 use rules::faults::{Failure, ReadingCause};
@@ -15,23 +16,7 @@ fn ends(window: Window) -> Failure
     } else {
         ReadingCause::SourceEnds
     };
-    Failure { cause, node: 0 }
-}
-
-// The number of the next n bits.
-pub fn taken<S: Source>(source: &S, window: Window, n: u32, p: u32) -> Result<u64, Failure>
-    requires within { window.end ≤ length (S.bits source.now) }
-    requires narrow { n ≤ 32 }
-    ensures value { result ≡ taken (S.bits source.now) window n p }
-    ensures bound { IfOk result (λ v. (v < 2 ^ n) × (p + n ≤ window.end)) }
-{
-    if u64::from(p) + u64::from(n) > u64::from(window.end) {
-        return Err(ends(window));
-    }
-    match source.get(p, n) {
-        Ok(number) => Ok(number),
-        Err(_) => Err(ends(window)),
-    }
+    cause.into()
 }
 
 // The first multiple at or after a place; every place is one of 0.
@@ -47,28 +32,34 @@ fn next_multiple(of: u16, p: u32) -> u32
     (p + (of - 1)) / of * of
 }
 
-// The place after alignment; the skipped bits must be there, and be 0.
-pub fn aligned<S: Source>(source: &S, window: Window, to: u16, p: u32) -> Result<u32, Failure>
-    requires within { window.end ≤ length (S.bits source.now) }
-    requires place { p ≤ 2147483647 }
-    ensures value { result ≡ aligned (S.bits source.now) window to p }
-    ensures bound { IfOk result (λ q. (p ≤ q) × (q ≤ window.end)) }
-{
-    let q = next_multiple(to, p);
-    if q > window.end {
-        return Err(ends(window));
-    }
-    match is_zero(source, p, q - p) {
-        Ok(zero) => {
-            if zero {
-                Ok(q)
-            } else {
-                Err(Failure {
-                    cause: ReadingCause::SkippedBits,
-                    node: 0,
-                })
-            }
+impl<S: Source> View<'_, S> {
+    // The number of the next n bits.
+    #[inline]
+    pub fn taken(&self, n: u32, p: u32) -> Result<u64, Failure>
+        requires narrow { n ≤ 32 }
+        ensures value { result ≡ taken (S.bits self.now.source.now) self.now.window n p }
+        ensures bound { IfOk result (λ v. (v < 2 ^ n) × (p + n ≤ self.now.window.end)) }
+    {
+        if u64::from(p) + u64::from(n) > u64::from(self.window.end) {
+            return Err(ends(self.window));
         }
-        Err(_) => Err(ends(window)),
+        self.source.get(p, n).map_err(|_| ends(self.window))
+    }
+
+    // The place after alignment; the skipped bits must be there, and be 0.
+    pub fn aligned(&self, to: u16, p: u32) -> Result<u32, Failure>
+        requires place { p ≤ 2147483647 }
+        ensures value { result ≡ aligned (S.bits self.now.source.now) self.now.window to p }
+        ensures bound { IfOk result (λ q. (p ≤ q) × (q ≤ self.now.window.end)) }
+    {
+        let q = next_multiple(to, p);
+        if q > self.window.end {
+            return Err(ends(self.window));
+        }
+        if is_zero(self.source, p, q - p).map_err(|_| ends(self.window))? {
+            Ok(q)
+        } else {
+            Err(ReadingCause::SkippedBits.into())
+        }
     }
 }

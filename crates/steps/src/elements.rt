@@ -1,79 +1,29 @@
-ghost use Rattle.std.specs.Prelude.{◌≡◌, ◌+◌, ◌^◌, ◌<◌, ◌≤◌, cond, length, pos, IfOk, if◌then◌else◌, nat_eq};
-ghost use Rattle.rules.specs.Values.{value};
-ghost use Rattle.rules.specs.Steps.{element, signed, at_least, at_most};
-ghost use Rattle.values.specs.Names.{named_by};
+ghost use Rattle.std.specs.Prelude.{◌≡◌, ◌+◌, ◌^◌, ◌<◌, ◌≤◌, ℤ, Bool, cond, pos, IfOk, if◌then◌else◌, nat_eq};
+ghost use Rattle.rules.specs.Steps.{element, bounded, signed};
+ghost use Rattle.values.specs.Scopes.{value_in};
+ghost use Rattle.steps.specs.Tests.{Answers};
 
-use crate::bits_taken::{aligned, taken};
 use crate::numbers::{natural, signed};
+use crate::view::View;
 use bits::source::Source;
-use records::records::Node;
+use records::statements::ReadLine;
 use rules::faults::{Failure, ReadingCause};
-use rules::lines::ReadLine;
-use rules::steps::{Got, Window};
-use values::evaluate::evaluate;
+use rules::steps::Got;
+use values::evaluate::Scope;
 
-// A value must not lie below its lowest, which is worked out here; node 0 sets no bound.
-fn at_least(nodes: &[Node], names: &[i64], size: u32, node: u16, v: i64) -> Result<(), Failure>
-    ensures { result ≡ at_least node (value nodes.now size (named_by names.now) node) v }
+// A value must keep to a bound, which is worked out here; node 0 sets none.
+fn bounded<F: Fn(i64) -> bool>(scope: &Scope, node: u16, keeps: F) -> Result<(), Failure>
+    requires { F.IsAlwaysCallable keeps }
+    ensures { (kept : ℤ → Bool) → Answers F.post keeps kept → result ≡ bounded node (value_in scope.now node) kept }
 {
     if node == 0 {
         return Ok(());
     }
-    let lowest = evaluate(nodes, names, size, node)?;
-    if v < lowest {
-        return Err(Failure {
-            cause: ReadingCause::OutsideBounds,
-            node: 0,
-        });
+    if keeps(scope.value(node)?) {
+        Ok(())
+    } else {
+        Err(ReadingCause::OutsideBounds.into())
     }
-    Ok(())
-}
-
-// Nor above its highest.
-fn at_most(nodes: &[Node], names: &[i64], size: u32, node: u16, v: i64) -> Result<(), Failure>
-    ensures { result ≡ at_most node (value nodes.now size (named_by names.now) node) v }
-{
-    if node == 0 {
-        return Ok(());
-    }
-    let highest = evaluate(nodes, names, size, node)?;
-    if highest < v {
-        return Err(Failure {
-            cause: ReadingCause::OutsideBounds,
-            node: 0,
-        });
-    }
-    Ok(())
-}
-
-// One element of a read: alignment, width, bits, lowest, highest; with look-ahead only the alignment is consumed.
-pub fn element<S: Source>(
-    source: &S,
-    nodes: &[Node],
-    names: &[i64],
-    size: u32,
-    window: Window,
-    line: ReadLine,
-    p: u32,
-) -> Result<Got, Failure>
-    requires within { window.end ≤ length (S.bits source.now) }
-    requires place { p ≤ 2147483647 }
-    ensures value { result ≡ element (S.bits source.now) window line (value nodes.now size (named_by names.now) line.width) (value nodes.now size (named_by names.now) line.lowest) (value nodes.now size (named_by names.now) line.highest) p }
-    ensures bound { IfOk result (λ g. g.after ≤ window.end) }
-{
-    let place = aligned(source, window, line.alignment, p)?;
-    let width = evaluate(nodes, names, size, line.width)?;
-    let length = natural(32, width)?;
-    let raw = taken(source, window, length, place)?;
-    let value = read_value(line.signed, length, raw);
-    at_least(nodes, names, size, line.lowest, value)?;
-    at_most(nodes, names, size, line.highest, value)?;
-    Ok(Got {
-        value,
-        place,
-        length,
-        after: place_after(line.ahead, place, length),
-    })
 }
 
 // The value that so many bits give.
@@ -95,4 +45,26 @@ fn place_after(ahead: u16, place: u32, length: u32) -> u32
     ensures bound { result ≤ place + length }
 {
     if ahead == 0 { place + length } else { place }
+}
+
+impl<S: Source> View<'_, S> {
+    // One element of a read: alignment, width, bits, lowest, highest; with look-ahead only the alignment is consumed.
+    pub fn element(&self, scope: &Scope, line: ReadLine, p: u32) -> Result<Got, Failure>
+        requires place { p ≤ 2147483647 }
+        ensures value { result ≡ element (S.bits self.now.source.now) self.now.window line (value_in scope.now line.width) (value_in scope.now line.lowest) (value_in scope.now line.highest) p }
+        ensures bound { IfOk result (λ g. g.after ≤ self.now.window.end) }
+    {
+        let place = self.aligned(line.alignment, p)?;
+        let length = natural(32, scope.value(line.width)?)?;
+        let raw = self.taken(length, place)?;
+        let value = read_value(line.signed, length, raw);
+        bounded(scope, line.lowest, |lowest| lowest <= value)?;
+        bounded(scope, line.highest, |highest| value <= highest)?;
+        Ok(Got {
+            value,
+            place,
+            length,
+            after: place_after(line.ahead, place, length),
+        })
+    }
 }

@@ -6,3 +6,4 @@ pub mod elements;
 pub mod headers;
 pub mod maps;
 pub mod numbers;
+pub mod view;

@@ -9,10 +9,7 @@ pub fn natural(most: u32, value: i64) -> Result<u32, Failure>
     ensures bound { IfOk result (λ n. n ≤ most) }
 {
     if value < 0 || value > i64::from(most) {
-        return Err(Failure {
-            cause: ReadingCause::WidthOrCount,
-            node: 0,
-        });
+        return Err(ReadingCause::WidthOrCount.into());
     }
     Ok(value as u32)
 }

@@ -1,9 +1,10 @@
 // The seven kinds of record.
+ghost use Rattle.std.proofs.Common.{rules};
 ghost use Rattle.table.specs.Kinds.{class_of, name_of, extension_of, line_of, node_of, map_of, row_of};
 ghost use Rattle.table.specs.Description.{no_class, no_name, no_extension, no_line, no_node, no_map, no_row};
 ghost use Rattle.table.specs.Fields.{class_broken, name_broken, extension_broken, line_broken, node_broken, map_broken, row_broken};
 
-use crate::record::Record;
+use crate::record::{Record, word};
 use fields::lines::line_fine;
 use fields::nodes::node_fine;
 use fields::tables::{class_fine, extension_fine, map_fine, name_fine};
@@ -13,7 +14,7 @@ use records::records::{Class, Extension, Line, Map, Name, Node, Row};
 impl Record for Class {
     const FIELDS: usize = 10;
 
-    ghost width = { 10 };
+    ghost FIELDS = { 10 };
 
     ghost decoded = { class_of };
 
@@ -21,49 +22,34 @@ impl Record for Class {
 
     ghost broken = { class_broken };
 
-    fn field_count() -> usize {
-        Self::FIELDS
-    }
-
-    fn from_fields(fields: &[u16]) -> Class {
+    fn read(bytes: &[u8], at: usize) -> Class {
         Class {
-            kind: fields[0],
-            base: fields[1],
-            abstracted: fields[2],
-            greatest: fields[3],
-            width: fields[4],
-            from: fields[5],
-            to: fields[6],
-            rank: fields[7],
-            first: fields[8],
-            number: fields[9],
-        }
-    }
-
-    fn absent() -> Class {
-        Class {
-            kind: 0,
-            base: 0,
-            abstracted: 0,
-            greatest: 0,
-            width: 0,
-            from: 0,
-            to: 0,
-            rank: 0,
-            first: 0,
-            number: 0,
+            kind: word(bytes, at),
+            base: word(bytes, at + 2),
+            abstracted: word(bytes, at + 4),
+            greatest: word(bytes, at + 6),
+            width: word(bytes, at + 8),
+            from: word(bytes, at + 10),
+            to: word(bytes, at + 12),
+            rank: word(bytes, at + 14),
+            first: word(bytes, at + 16),
+            number: word(bytes, at + 18),
         }
     }
 
     fn breaks(&self, counts: Counts, _n: usize) -> bool {
         !class_fine(counts, *self)
     }
+
+    ghost few = { Prim.search rules };
+
+    ghost absent = { Prim.search rules };
 }
 
 impl Record for Name {
     const FIELDS: usize = 1;
 
-    ghost width = { 1 };
+    ghost FIELDS = { 1 };
 
     ghost decoded = { name_of };
 
@@ -71,27 +57,25 @@ impl Record for Name {
 
     ghost broken = { name_broken };
 
-    fn field_count() -> usize {
-        Self::FIELDS
-    }
-
-    fn from_fields(fields: &[u16]) -> Name {
-        Name { owner: fields[0] }
-    }
-
-    fn absent() -> Name {
-        Name { owner: 0 }
+    fn read(bytes: &[u8], at: usize) -> Name {
+        Name {
+            owner: word(bytes, at),
+        }
     }
 
     fn breaks(&self, counts: Counts, _n: usize) -> bool {
         !name_fine(counts, *self)
     }
+
+    ghost few = { Prim.search rules };
+
+    ghost absent = { Prim.search rules };
 }
 
 impl Record for Extension {
     const FIELDS: usize = 3;
 
-    ghost width = { 3 };
+    ghost FIELDS = { 3 };
 
     ghost decoded = { extension_of };
 
@@ -99,35 +83,27 @@ impl Record for Extension {
 
     ghost broken = { extension_broken };
 
-    fn field_count() -> usize {
-        Self::FIELDS
-    }
-
-    fn from_fields(fields: &[u16]) -> Extension {
+    fn read(bytes: &[u8], at: usize) -> Extension {
         Extension {
-            class: fields[0],
-            first: fields[1],
-            number: fields[2],
-        }
-    }
-
-    fn absent() -> Extension {
-        Extension {
-            class: 0,
-            first: 0,
-            number: 0,
+            class: word(bytes, at),
+            first: word(bytes, at + 2),
+            number: word(bytes, at + 4),
         }
     }
 
     fn breaks(&self, counts: Counts, _n: usize) -> bool {
         !extension_fine(counts, *self)
     }
+
+    ghost few = { Prim.search rules };
+
+    ghost absent = { Prim.search rules };
 }
 
 impl Record for Line {
     const FIELDS: usize = 8;
 
-    ghost width = { 8 };
+    ghost FIELDS = { 8 };
 
     ghost decoded = { line_of };
 
@@ -135,45 +111,32 @@ impl Record for Line {
 
     ghost broken = { line_broken };
 
-    fn field_count() -> usize {
-        Self::FIELDS
-    }
-
-    fn from_fields(fields: &[u16]) -> Line {
+    fn read(bytes: &[u8], at: usize) -> Line {
         Line {
-            kind: fields[0],
-            a: fields[1],
-            b: fields[2],
-            c: fields[3],
-            d: fields[4],
-            e: fields[5],
-            f: fields[6],
-            g: fields[7],
-        }
-    }
-
-    fn absent() -> Line {
-        Line {
-            kind: 0,
-            a: 0,
-            b: 0,
-            c: 0,
-            d: 0,
-            e: 0,
-            f: 0,
-            g: 0,
+            kind: word(bytes, at),
+            a: word(bytes, at + 2),
+            b: word(bytes, at + 4),
+            c: word(bytes, at + 6),
+            d: word(bytes, at + 8),
+            e: word(bytes, at + 10),
+            f: word(bytes, at + 12),
+            g: word(bytes, at + 14),
         }
     }
 
     fn breaks(&self, counts: Counts, _n: usize) -> bool {
         !line_fine(counts, *self)
     }
+
+    ghost few = { Prim.search rules };
+
+    ghost absent = { Prim.search rules };
 }
 
 impl Record for Node {
     const FIELDS: usize = 3;
 
-    ghost width = { 3 };
+    ghost FIELDS = { 3 };
 
     ghost decoded = { node_of };
 
@@ -181,31 +144,27 @@ impl Record for Node {
 
     ghost broken = { node_broken };
 
-    fn field_count() -> usize {
-        Self::FIELDS
-    }
-
-    fn from_fields(fields: &[u16]) -> Node {
+    fn read(bytes: &[u8], at: usize) -> Node {
         Node {
-            op: fields[0],
-            a: fields[1],
-            b: fields[2],
+            op: word(bytes, at),
+            a: word(bytes, at + 2),
+            b: word(bytes, at + 4),
         }
-    }
-
-    fn absent() -> Node {
-        Node { op: 0, a: 0, b: 0 }
     }
 
     fn breaks(&self, counts: Counts, n: usize) -> bool {
         !node_fine(counts, n, *self)
     }
+
+    ghost few = { Prim.search rules };
+
+    ghost absent = { Prim.search rules };
 }
 
 impl Record for Map {
     const FIELDS: usize = 3;
 
-    ghost width = { 3 };
+    ghost FIELDS = { 3 };
 
     ghost decoded = { map_of };
 
@@ -213,35 +172,27 @@ impl Record for Map {
 
     ghost broken = { map_broken };
 
-    fn field_count() -> usize {
-        Self::FIELDS
-    }
-
-    fn from_fields(fields: &[u16]) -> Map {
+    fn read(bytes: &[u8], at: usize) -> Map {
         Map {
-            width: fields[0],
-            first: fields[1],
-            number: fields[2],
-        }
-    }
-
-    fn absent() -> Map {
-        Map {
-            width: 0,
-            first: 0,
-            number: 0,
+            width: word(bytes, at),
+            first: word(bytes, at + 2),
+            number: word(bytes, at + 4),
         }
     }
 
     fn breaks(&self, counts: Counts, _n: usize) -> bool {
         !map_fine(counts, *self)
     }
+
+    ghost few = { Prim.search rules };
+
+    ghost absent = { Prim.search rules };
 }
 
 impl Record for Row {
     const FIELDS: usize = 3;
 
-    ghost width = { 3 };
+    ghost FIELDS = { 3 };
 
     ghost decoded = { row_of };
 
@@ -249,27 +200,19 @@ impl Record for Row {
 
     ghost broken = { row_broken };
 
-    fn field_count() -> usize {
-        Self::FIELDS
-    }
-
-    fn from_fields(fields: &[u16]) -> Row {
+    fn read(bytes: &[u8], at: usize) -> Row {
         Row {
-            index: fields[0],
-            high: fields[1],
-            low: fields[2],
-        }
-    }
-
-    fn absent() -> Row {
-        Row {
-            index: 0,
-            high: 0,
-            low: 0,
+            index: word(bytes, at),
+            high: word(bytes, at + 2),
+            low: word(bytes, at + 4),
         }
     }
 
     fn breaks(&self, _counts: Counts, _n: usize) -> bool {
         false
     }
+
+    ghost few = { Prim.search rules };
+
+    ghost absent = { Prim.search rules };
 }

@@ -130,8 +130,5 @@ pub fn load(heap: Global, bytes: &[u8]) -> Result<Loaded, Fault>
     if let Some(cause) = file_fault(bytes) {
         return Err(Fault::of_file(cause));
     }
-    match read_tables(heap, bytes, counts_at(bytes)) {
-        Ok(tables) => Ok(tables),
-        Err(_) => Err(Fault::of_file(Cause::Memory)),
-    }
+    read_tables(heap, bytes, counts_at(bytes)).map_err(|_| Fault::of_file(Cause::Memory))
 }

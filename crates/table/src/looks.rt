@@ -1,10 +1,10 @@
 ghost use Rattle.std.specs.Prelude.{◌≡◌};
-ghost use Rattle.table.specs.Description.{description, counts_of, line_at, statement_at};
+ghost use Rattle.table.specs.Description.{description, counts_of, class_at, name_at, extension_at, line_at, node_at, map_at, row_at, statement_at};
 
 use crate::loaded::Loaded;
 use crate::record::record_at;
 use records::counts::Counts;
-use records::records::Line;
+use records::records::{Class, Extension, Line, Map, Name, Node, Row};
 use records::statements::Statement;
 
 impl Loaded {
@@ -27,13 +27,55 @@ impl Loaded {
     pub fn statement(&self, n: usize) -> Statement
         ensures { result ≡ statement_at (description self.now) n }
     {
-        self.line(n).statement()
+        Statement::from(self.line(n))
+    }
+
+    // Class number n.
+    pub fn class(&self, n: usize) -> Class
+        ensures { result ≡ class_at (description self.now) n }
+    {
+        record_at(&self.classes, n)
+    }
+
+    // Name number n.
+    pub fn name(&self, n: usize) -> Name
+        ensures { result ≡ name_at (description self.now) n }
+    {
+        record_at(&self.names, n)
+    }
+
+    // Extension number n.
+    pub fn extension(&self, n: usize) -> Extension
+        ensures { result ≡ extension_at (description self.now) n }
+    {
+        record_at(&self.extensions, n)
     }
 
     // Line number n.
-    fn line(&self, n: usize) -> Line
+    pub fn line(&self, n: usize) -> Line
         ensures { result ≡ line_at (description self.now) n }
     {
         record_at(&self.lines, n)
+    }
+
+    // Node number n.
+    pub fn node(&self, n: usize) -> Node
+        ensures { result ≡ node_at (description self.now) n }
+    {
+        record_at(&self.nodes, n)
+    }
+
+    // Map number n.
+    pub fn map(&self, n: usize) -> Map
+        ensures { result ≡ map_at (description self.now) n }
+    {
+        record_at(&self.maps, n)
+    }
+
+    // Row number n.
+    pub fn row(&self, n: usize) -> Row
+        ensures { result ≡ row_at (description self.now) n }
+    {
+        record_at(&self.rows, n)
     }
 }

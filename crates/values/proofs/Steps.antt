@@ -1,54 +1,54 @@
 -- What comes of a node, by its term.
-use Rattle.std.proofs.Common.{◌≡◌, ℕ, ◌<◌, ◌≤◌, List, ℤ, pos, Ok, Err, sym, ap, ◌∙◌}
+use Rattle.std.proofs.Common.{◌≡◌, ℕ, ◌<◌, ◌≤◌, List, ℤ, pos, Some, None, Option, Ok, Err, sym, ap, ◌∙◌}
+use Rattle.std.proofs.lemmas.Bool.{lt-ltb, le-ltb}
 use Rattle.records.specs.declared.records.Node.{Node}
 use Rattle.table.specs.Description.{entry, no_node}
 use Rattle.rules.specs.Terms.{term}
 use Rattle.rules.specs.declared.faults.Failure.{Failure}
 use Rattle.rules.specs.declared.terms.Operator.{Operator}
 use Rattle.rules.specs.declared.terms.Term.{Term}
-use Rattle.rules.specs.declared.terms.Term.TheVariants.{Constant, Named, OwnSize, Apply, NoTerm}
+use Rattle.rules.specs.declared.terms.Term.TheVariants.{Constant, Named, OwnSize, Apply}
 use Rattle.rules.proofs.Equations.{value_step}
-use Rattle.rules.proofs.Follow.{below_true, above_false}
 use Rattle.rules.specs.Checks.{Check, pick, fails, then}
 use Rattle.rules.specs.declared.faults.ReadingCause.TheVariants.{Unchecked}
 use Rattle.rules.specs.Values.{Names, applied, of_node, term_value, before, value}
 
 module _ (nodes : List Node) (size : ℕ) (names : Names) (k : ℕ) where
-  abbrev node_term : Term
+  abbrev node_term : Option Term
   node_term = term (entry nodes k no_node)
 
   abbrev result : Check ℤ
   result = value nodes size names k
 
-  at_term : (t : Term) → t ≡ node_term → term_value k t names size (before k (value nodes size names)) ≡ result
+  at_term : (t : Option Term) → t ≡ node_term → term_value k t names size (before k (value nodes size names)) ≡ result
   at_term t e = ap (λ t. term_value k t names size (before k (value nodes size names))) e ∙ sym (value_step nodes size names k)
 
-  pub at_constant : (v : ℕ) → Constant v ≡ node_term → Ok (pos v) ≡ result
+  pub at_constant : (v : ℕ) → Some (Constant v) ≡ node_term → Ok (pos v) ≡ result
   unfolding term_value
-  at_constant v e = at_term (Constant v) e
+  at_constant v e = at_term (Some (Constant v)) e
 
-  pub at_named : (n : ℕ) → Named n ≡ node_term → Ok (names n) ≡ result
+  pub at_named : (n : ℕ) → Some (Named n) ≡ node_term → Ok (names n) ≡ result
   unfolding term_value
-  at_named n e = at_term (Named n) e
+  at_named n e = at_term (Some (Named n)) e
 
-  pub at_size : OwnSize ≡ node_term → Ok (pos size) ≡ result
+  pub at_size : Some OwnSize ≡ node_term → Ok (pos size) ≡ result
   unfolding term_value
-  at_size e = at_term OwnSize e
+  at_size e = at_term (Some OwnSize) e
 
-  pub at_none : NoTerm ≡ node_term → fails Unchecked ≡ result
+  pub at_none : None ≡ node_term → fails Unchecked ≡ result
   unfolding term_value
-  at_none e = at_term NoTerm e
+  at_none e = at_term None e
 
-  module _ (o : Operator) (left right : ℕ) (e : Apply o left right ≡ node_term) where
+  module _ (o : Operator) (left right : ℕ) (e : Some (Apply o left right) ≡ node_term) where
     at_apply : (then (before k (value nodes size names) left) λ x. then (before k (value nodes size names) right) λ y. of_node k (applied o x y)) ≡ result
     unfolding term_value
-    at_apply = at_term (Apply o left right) e
+    at_apply = at_term (Some (Apply o left right)) e
 
     missing : (j : ℕ) → k ≤ j → before k (value nodes size names) j ≡ fails Unchecked
-    missing j h = ap (λ b. pick b (λ _. value nodes size names j) (λ _. fails Unchecked)) (above_false j k h)
+    missing j h = ap (λ b. pick b (λ _. value nodes size names j) (λ _. fails Unchecked)) (le-ltb j k h)
 
     present : (j : ℕ) → j < k → before k (value nodes size names) j ≡ value nodes size names j
-    present j h = ap (λ b. pick b (λ _. value nodes size names j) (λ _. fails Unchecked)) (below_true j k h)
+    present j h = ap (λ b. pick b (λ _. value nodes size names j) (λ _. fails Unchecked)) (lt-ltb j k h)
 
     pub left_missing : k ≤ left → fails Unchecked ≡ result
     unfolding then

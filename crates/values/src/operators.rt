@@ -23,28 +23,19 @@ fn ranged(v: i64) -> Result<i64, ReadingCause>
 fn multiply(x: i64, y: i64) -> Result<i64, ReadingCause>
     ensures { result ≡ ranged (x *ℤ y) }
 {
-    match x.checked_mul(y) {
-        Some(v) => ranged(v),
-        None => Err(ReadingCause::OutOfRange),
-    }
+    ranged(x.checked_mul(y).ok_or(ReadingCause::OutOfRange)?)
 }
 
 fn add(x: i64, y: i64) -> Result<i64, ReadingCause>
     ensures { result ≡ ranged (x +ℤ y) }
 {
-    match x.checked_add(y) {
-        Some(v) => ranged(v),
-        None => Err(ReadingCause::OutOfRange),
-    }
+    ranged(x.checked_add(y).ok_or(ReadingCause::OutOfRange)?)
 }
 
 fn subtract(x: i64, y: i64) -> Result<i64, ReadingCause>
     ensures { result ≡ ranged (x -ℤ y) }
 {
-    match x.checked_sub(y) {
-        Some(v) => ranged(v),
-        None => Err(ReadingCause::OutOfRange),
-    }
+    ranged(x.checked_sub(y).ok_or(ReadingCause::OutOfRange)?)
 }
 
 // Drops the fraction.
@@ -54,10 +45,7 @@ fn divide(x: i64, y: i64) -> Result<i64, ReadingCause>
     if y == 0 {
         return Err(ReadingCause::ZeroDivisor);
     }
-    match x.checked_div(y) {
-        Some(v) => ranged(v),
-        None => Err(ReadingCause::OutOfRange),
-    }
+    ranged(x.checked_div(y).ok_or(ReadingCause::OutOfRange)?)
 }
 
 // Has the sign of x.
@@ -67,10 +55,7 @@ fn remainder(x: i64, y: i64) -> Result<i64, ReadingCause>
     if y == 0 {
         return Err(ReadingCause::ZeroDivisor);
     }
-    match x.checked_rem(y) {
-        Some(v) => ranged(v),
-        None => Ok(0),
-    }
+    ranged(x.checked_rem(y).unwrap_or(0))
 }
 
 fn shift_left(x: i64, y: i64) -> Result<i64, ReadingCause>
@@ -117,17 +102,11 @@ fn flag(test: bool) -> Result<i64, ReadingCause>
     Ok(i64::from(test))
 }
 
-fn equal(x: i64, y: i64) -> bool
-    ensures { result ≡ same x y }
+// Whether a value is 0, which is false.
+pub fn is_zero(value: i64) -> bool
+    ensures { result ≡ is_zero value }
 {
-    x <= y && y <= x
-}
-
-// Anything but 0 is true.
-fn is_true(x: i64) -> bool
-    ensures { result ≡ not (is_zero x) }
-{
-    x != 0
+    value == 0
 }
 
 // What an operator gives of two values.
@@ -146,11 +125,11 @@ pub fn apply(operator: Operator, x: i64, y: i64) -> Result<i64, ReadingCause>
         Operator::AtMost => flag(x <= y),
         Operator::Greater => flag(y < x),
         Operator::AtLeast => flag(y <= x),
-        Operator::Equal => flag(equal(x, y)),
-        Operator::Unequal => flag(!equal(x, y)),
+        Operator::Equal => flag(x == y),
+        Operator::Unequal => flag(x != y),
         Operator::BitAnd => bit_and(x, y),
         Operator::BitOr => bit_or(x, y),
-        Operator::And => flag(is_true(x) && is_true(y)),
-        Operator::Or => flag(is_true(x) || is_true(y)),
+        Operator::And => flag(!is_zero(x) && !is_zero(y)),
+        Operator::Or => flag(!is_zero(x) || !is_zero(y)),
     }
 }

@@ -4,8 +4,8 @@ use Rattle.bits.proofs.put.with_piece.Goals as goal
 
 pub overflow_cast-result : goal.overflow_cast-result
 overflow_cast-result c =
-    rw (masked c.args.byte c.args.m c.args.tail c.args.x (omega arith) (omega arith))
+    rw (c.from-old.ensures, masked c.args.byte c.args.m c.args.tail c.args.x (omega arith) (omega arith))
     (record { fits = with_piece_lt c.args.byte c.args.m c.args.tail c.args.x (omega arith) (omega arith) })
 
 pub returns : goal.returns
-returns c = masked c.args.byte c.args.m c.args.tail c.args.x (omega arith) (omega arith)
+returns c = rw c.from-old.ensures (masked c.args.byte c.args.m c.args.tail c.args.x (omega arith) (omega arith))

@@ -6,6 +6,3 @@ use Rattle.bits.proofs.zero.is_zero.Given as goal
 -- what was read is all 0
 abbrev pub invariant-loop-at : goal.invariant-loop-at
 invariant-loop-at g l = (l.from ≤ l.at) × (l.at ≤ l.end) × (all_zero (part (g.S.Source.bits l.source) l.from (l.at - l.from)) ≡ true)
-
-abbrev pub decreases-loop-at : goal.decreases-loop-at
-decreases-loop-at g l = l.end - l.at

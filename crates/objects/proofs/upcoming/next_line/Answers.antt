@@ -21,8 +21,8 @@ pub returns-in_default : goal.returns-in_default
 returns-in_default c =
     record {
       same = c.loop-left.invariant.0
-          ∙ line_next c.args.lines.now c.loop-left.line c.loop-left.left (omega arith) _ (c.statement.ensures ∙ ap statement c.record_at.ensures);
-      is = sym (c.statement.ensures ∙ ap statement c.record_at.ensures);
+          ∙ line_next c.args.lines.now c.loop-left.line c.loop-left.left (omega arith) _ (c.from.ensures ∙ ap statement c.record_at.ensures);
+      is = sym (c.from.ensures ∙ ap statement c.record_at.ensures);
       known = known_of _ c.in_default.not-Unknown;
     }
 

@@ -20,10 +20,10 @@ loop-i-preserved c =
     let r = row_at d (m.first + c.loop-i.i) in
     let f = c.ranges.value in
     let so_far = simp to_z-of_z at c.loop-i.invariant in
-    let test : c.gives_lower.result ≡ lowers r v c.loop-i.lowest (find_row d m.first c.loop-i.i r.index) = simp (to_z-of_z, c.row_at-row.ensures) at c.gives_lower.ensures in
+    let test : c.gives_lower.result ≡ lowers r v c.loop-i.lowest (find_row d m.first c.loop-i.i r.index) = simp (to_z-of_z, c.row-row.ensures) at c.gives_lower.ensures in
     let P : ℕ → Type 0 = λ x. Lowest m.width (find_row d m.first (c.loop-i.i + 1)) v x in
     simp to_z-of_z (elim c.if-gives_lower.branch [
-      | then-gives_lower w ↦ subst P (sym (w.lowest-is ∙ (w.from-lowest.ensures ∙ ap (λ (x : Row). x.index) c.row_at-row.ensures)))
+      | then-gives_lower w ↦ subst P (sym (w.lowest-is ∙ (w.from-lowest.ensures ∙ ap (λ (x : Row). x.index) c.row-row.ensures)))
           (lowest_lowered d m.first c.loop-i.i m.width v c.loop-i.lowest so_far (sym test ∙ w.if-gives_lower.true))
       | else-gives_lower w ↦ subst P (sym w.lowest-is)
           (lowest_kept d m.first c.loop-i.i m.width v c.loop-i.lowest so_far (sym test ∙ w.if-gives_lower.false))

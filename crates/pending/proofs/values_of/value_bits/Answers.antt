@@ -20,7 +20,7 @@ returns-in-MapRead c =
     let d = description c.args.tables.now in
     let f = c.ranges.value in
     let P : Statement → Type 0 = λ s. Answers (value_bits d s c.args.value c.args.length) (SensibleValue d s c.args.value c.args.length) c.map_bits.result in
-    subst P c.in-MapRead.ensures (simp (to_z-of_z, c.map_at.ensures) at c.map_bits.ensures)
+    subst P c.in-MapRead.ensures (simp (to_z-of_z, c.map.ensures) at c.map_bits.ensures)
 
 pub returns-in_default : goal.returns-in_default
 returns-in_default c = λ h.

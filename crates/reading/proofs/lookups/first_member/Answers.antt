@@ -1,18 +1,9 @@
-use Rattle.std.proofs.Common.{sym, ◌∙◌, arith}
-use Rattle.reading.proofs.Members.{later_none, passed, found, none_found}
-use Rattle.rules.specs.Lookups.{first_member}
+use Rattle.std.proofs.Common.{ap, ◌∙◌}
+use Rattle.reading.proofs.Members.{number_of, member_number}
 use Rattle.reading.proofs.lookups.first_member.Goals as goal
 
-pub returns-then-is_member_with : goal.returns-then-is_member_with
-returns-then-is_member_with c =
-    found c.args.classes.now c.args.base c.args.id c.loop-i.i (omega arith) (sym c.is_member_with.ensures ∙ c.if-is_member_with.true) ∙ sym c.loop-i.invariant
+pub returns-in-Some : goal.returns-in-Some
+returns-in-Some c = ap number_of c.in-Some.ensures.value ∙ member_number c.args.classes.now c.args.base c.args.id
 
-pub loop-i-init : goal.loop-i-init
-loop-i-init c = later_none (first_member c.args.classes.now c.args.base c.args.id)
-
-pub loop-i-preserved : goal.loop-i-preserved
-loop-i-preserved c =
-    c.loop-i.invariant ∙ passed c.args.classes.now c.args.base c.args.id c.loop-i.i (omega arith) (sym c.is_member_with.ensures ∙ c.if-is_member_with.false)
-
-pub returns : goal.returns
-returns c = none_found c.args.classes.now c.args.base c.args.id c.loop-i.i (omega arith) ∙ sym c.loop-i.invariant
+pub returns-in-None : goal.returns-in-None
+returns-in-None c = ap number_of c.in-None.ensures.value ∙ member_number c.args.classes.now c.args.base c.args.id

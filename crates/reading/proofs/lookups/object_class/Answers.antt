@@ -16,20 +16,20 @@ not_zero n h = grind (arith, nat_tests)
 
 pub returns-then-not-is_base : goal.returns-then-not-is_base
 returns-then-not-is_base c =
-    class_plain (description c.args.tables.now) c.args.declared c.args.id c.class_at-class.result c.class_at-class.ensures (sym c.is_base.ensures ∙ c.if-not-is_base.true)
+    class_plain (description c.args.tables.now) c.args.declared c.args.id c.class-class.result c.class-class.ensures (sym c.is_base.ensures ∙ c.if-not-is_base.true)
 
 pub returns-then-has_id : goal.returns-then-has_id
 returns-then-has_id c =
-    class_own (description c.args.tables.now) c.args.declared c.args.id c.class_at-class.result c.class_at-class.ensures (sym c.is_base.ensures ∙ c.if-not-is_base.false)
+    class_own (description c.args.tables.now) c.args.declared c.args.id c.class-class.result c.class-class.ensures (sym c.is_base.ensures ∙ c.if-not-is_base.false)
     c.if-class-eq0.true (sym c.has_id.ensures ∙ c.if-has_id.true)
 
 pub returns : goal.returns
 returns c =
-    let none : (eqb c.class_at-class.result.abstracted 0 && has_id c.args.id c.class_at-class.result) ≡ false =
+    let none : (eqb c.class-class.result.abstracted 0 && has_id c.args.id c.class-class.result) ≡ false =
     elim c.else-class-eq0.branch [
-      | else-class-eq0-via-then-class-eq0+else-has_id w ↦ (let f : has_id c.args.id c.class_at-class.result ≡ false = sym w.has_id.ensures ∙ w.if-has_id.false in and_false _ _ f)
-      | else-class-eq0-via-else-class-eq0 w ↦ (let f : eqb c.class_at-class.result.abstracted 0 ≡ false = not_zero _ w.if-class-eq0.false in ap (λ b. b && has_id c.args.id c.class_at-class.result) f)
+      | else-class-eq0-via-then-class-eq0+else-has_id w ↦ (let f : has_id c.args.id c.class-class.result ≡ false = sym w.has_id.ensures ∙ w.if-has_id.false in and_false _ _ f)
+      | else-class-eq0-via-else-class-eq0 w ↦ (let f : eqb c.class-class.result.abstracted 0 ≡ false = not_zero _ w.if-class-eq0.false in ap (λ b. b && has_id c.args.id c.class-class.result) f)
     ] in
     c.first_member.ensures
     ∙ ap (λ (xs : List Class). first_member xs c.args.declared c.args.id) c.deref.ensures.value
-    ∙ class_member (description c.args.tables.now) c.args.declared c.args.id c.class_at-class.result c.class_at-class.ensures (sym c.is_base.ensures ∙ c.if-not-is_base.false) none
+    ∙ class_member (description c.args.tables.now) c.args.declared c.args.id c.class-class.result c.class-class.ensures (sym c.is_base.ensures ∙ c.if-not-is_base.false) none

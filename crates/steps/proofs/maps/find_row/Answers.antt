@@ -1,4 +1,4 @@
-use Rattle.std.proofs.Common.{◌≡◌, ◌+◌, ◌-◌, Ok, sym, ap, ◌∙◌, arith, to_z-of_z, w64, SFits, rules}
+use Rattle.std.proofs.Common.{◌≡◌, ◌+◌, ◌-◌, Ok, Err, sym, ap, ◌∙◌, arith, to_z-of_z, w64, SFits, rules}
 use Rattle.records.specs.declared.records.Row.{Row}
 use Rattle.table.specs.Description.{entry, no_row, row_at}
 use Rattle.rules.specs.Lookups.{output, find_row}
@@ -25,4 +25,4 @@ loop-i-preserved c = λ d e.
     ∙ ap (λ t. find_row d (c.args.first + (c.loop-i.i + 1)) t c.args.index) b
 
 pub returns : goal.returns
-returns c = λ d e. sym (c.loop-i.invariant d e ∙ no_row_left d (c.args.first + c.loop-i.i) (c.args.number - c.loop-i.i) c.args.index (omega arith))
+returns c = λ d e. ap Err c.into.ensures ∙ sym (c.loop-i.invariant d e ∙ no_row_left d (c.args.first + c.loop-i.i) (c.args.number - c.loop-i.i) c.args.index (omega arith))

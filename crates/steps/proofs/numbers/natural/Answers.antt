@@ -1,4 +1,4 @@
-use Rattle.std.proofs.Common.{◌≡◌, true, false, ◌&&◌, pos, sym, arith, to_z-of_z}
+use Rattle.std.proofs.Common.{◌≡◌, true, false, ◌&&◌, pos, Err, sym, ap, ◌∙◌, arith, to_z-of_z}
 use lib.Signed.{le_z}
 use Rattle.std.proofs.lemmas.Int.{ints}
 use Rattle.steps.proofs.Naturals.{natural_in, natural_out, natural_bound}
@@ -8,7 +8,7 @@ pub returns-then-value-lt0 : goal.returns-then-value-lt0
 returns-then-value-lt0 c =
     let f = c.ranges.value in
     let t : (le_z (pos 0) c.args.value && le_z c.args.value (pos c.args.most)) ≡ false = grind (arith, ints, to_z-of_z) in
-    record { value = sym (natural_out c.args.most c.args.value t); bound = tt }
+    record { value = ap Err c.into.ensures ∙ sym (natural_out c.args.most c.args.value t); bound = tt }
 
 pub returns : goal.returns
 returns c =

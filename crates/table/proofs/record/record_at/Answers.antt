@@ -4,7 +4,7 @@ use Rattle.table.proofs.record.record_at.Goals as goal
 
 pub returns-then-n-table : goal.returns-then-n-table
 returns-then-n-table g c =
-    c.absent.ensures ∙
+    g.met.R.Record.absent c.default.result c.default.ensures ∙
     elim c.if-n-table.either [
       | inl z ↦ entry_zero c.args.table.now c.args.n g.R.Record.none z
       | inr h ↦ entry_none c.args.table.now c.args.n g.R.Record.none h.1

@@ -1,7 +1,6 @@
-use Rattle.std.proofs.Common.{◌≡◌, ◌≤◌, List, [], ◌∷◌, length, sym, ap, ◌∙◌, subst, arith}
-use Rattle.records.specs.declared.records.Class.{Class}
+use Rattle.std.proofs.Common.{◌≡◌, ◌≤◌, List, [], ◌∷◌, length, sym, ◌∙◌, subst, arith}
 use Rattle.records.specs.declared.records.Extension.{Extension}
-use Rattle.table.specs.Description.{description, entry, no_class, class_at}
+use Rattle.table.specs.Description.{description}
 use Rattle.objects.specs.declared.frame.Frame.TheVariants.{Lines}
 use Rattle.objects.specs.Frames.{frames}
 use Rattle.objects.specs.Ahead.{Inner, inner_of}
@@ -19,14 +18,10 @@ returns-then-class-eq0 c =
 pub returns : goal.returns
 returns c =
     let d = description c.args.tables.now in
-    let own : c.record_at-own.result ≡ class_at d c.args.class =
-    c.record_at-own.ensures ∙ ap (λ (xs : List Class). entry xs c.args.class no_class) c.deref.ensures.value in
-    let base : c.record_at-base.result ≡ class_at d c.record_at-own.result.base =
-    c.record_at-base.ensures ∙ ap (λ (xs : List Class). entry xs c.record_at-own.result.base no_class) c.deref-2.ensures.value in
     let fs : frames c.push_both.new.self
-    ≡ Lines c.record_at-base.result.first c.record_at-base.result.number ∷ Lines c.record_at-own.result.first c.record_at-own.result.number ∷ [] =
+    ≡ Lines c.class-base.result.first c.class-base.result.number ∷ Lines c.class-own.result.first c.class-own.result.number ∷ [] =
     c.push_both.ensures ∙ (λ i. c.lines_of-2.ensures i ∷ c.lines_of.ensures i ∷ (c.idle-inside.ensures i).frames) in
     let same : ◌≡◌ {A = Inner} (record { frames = frames c.push_both.new.self; extension = (inner_of c.idle-inside.result).extension; names = (inner_of c.idle-inside.result).names }) _ =
     λ i. record { frames = fs i; extension = (c.idle-inside.ensures i).extension; names = (c.idle-inside.ensures i).names } in
     subst (λ (x : Inner). Begun d c.args.class x) (sym same)
-    (begun_some d c.args.class c.record_at-own.result c.record_at-base.result (omega arith) own base c.requires)
+    (begun_some d c.args.class c.class-own.result c.class-base.result (omega arith) c.class-own.ensures c.class-base.ensures c.requires)

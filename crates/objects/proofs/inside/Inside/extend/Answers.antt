@@ -1,3 +1,4 @@
+use Rattle.std.proofs.lemmas.Result.{err_from_is_err_and, IfOk-at_ok}
 use Rattle.std.proofs.Common.{◌≡◌, ◌+◌, ◌<◌, ◌≤◌, true, false, eqb, List, [], ◌∷◌, length, sym, refl, ap, ◌∙◌, subst, arith}
 use Rattle.table.specs.Description.{Description, description}
 use Rattle.rules.specs.Trace.{stop}
@@ -5,6 +6,7 @@ use Rattle.objects.specs.declared.frame.Frame.{Frame}
 use Rattle.objects.specs.declared.frame.Frame.TheVariants.{Lines}
 use Rattle.objects.specs.Ahead.{inner_of, object_of}
 use Rattle.objects.proofs.FrameRuns.{no_extension_left, other_extension, extension_fails, extensions_end, extension_begins, extension_room}
+use Rattle.objects.proofs.Tries.{tried_ok, tried_err}
 use Rattle.objects.proofs.Sames.{same-inner, quietly_at}
 use Rattle.std.proofs.lemmas.Bool.Decides.{nat_tests}
 use Rattle.records.specs.declared.records.Extension.{Extension}
@@ -18,70 +20,72 @@ none_fit d fs e = subst (Fit d) (sym e) tt
 
 pub returns-then-i-count : goal.returns-then-i-count
 returns-then-i-count g c =
-    let d = description c.args.tables.now in
-    let bits = g.S.Source.bits c.args.source.now in
+    let d = description c.args.scene.now.tables.now in
+    let bits = g.S.Source.bits c.args.scene.now.source.now in
     let v = c.deref-table.ensures.value in
     record {
-      same = no_extension_left d bits (object_of c.args.about) (inner_of c.args.self.now) c.args.p c.requires.none (subst (λ (es : List Extension). length es ≤ c.args.self.now.extension) v c.if-i-count.true);
+      same = no_extension_left d bits (object_of c.args.scene.now.about) (inner_of c.args.self.now) c.args.scene.now.place c.requires.none (subst (λ (es : List Extension). length es ≤ c.args.self.now.extension) v c.if-i-count.true);
       fit = none_fit d _ c.requires.none;
     }
 
-pub returns-then-extension-about : goal.returns-then-extension-about
-returns-then-extension-about g c =
-    let d = description c.args.tables.now in
-    let bits = g.S.Source.bits c.args.source.now in
+pub returns-then-extension-scene : goal.returns-then-extension-scene
+returns-then-extension-scene g c =
+    let d = description c.args.scene.now.tables.now in
+    let bits = g.S.Source.bits c.args.scene.now.source.now in
     let v = c.deref-table.ensures.value in
     let some : c.args.self.now.extension < length d.extensions = subst (λ (es : List Extension). c.args.self.now.extension < length es) v c.if-i-count.false in
     let is : c.record_at-extension.result ≡ extension_at d (c.args.self.now.extension + 1) = c.record_at-extension.ensures ∙ ap (λ (es : List Extension). entry es (c.args.self.now.extension + 1) no_extension) v in
-    let other : eqb c.record_at-extension.result.class c.args.about.class ≡ false = grind (arith, nat_tests) in
+    let other : eqb c.record_at-extension.result.class c.args.scene.now.about.class ≡ false = grind (arith, nat_tests) in
     quietly_at (same-inner c.requires.none refl)
     (record {
-      same = other_extension d bits (object_of c.args.about) (inner_of c.args.self.now) c.args.p c.requires.none c.record_at-extension.result is some other;
+      same = other_extension d bits (object_of c.args.scene.now.about) (inner_of c.args.self.now) c.args.scene.now.place c.requires.none c.record_at-extension.result is some other;
       fit = none_fit d [] refl;
-      near = c.requires.near;
+      near = c.args.scene.now.near;
     })
 
-pub returns-then-q-about : goal.returns-then-q-about
-returns-then-q-about g c =
-    let d = description c.args.tables.now in
-    let bits = g.S.Source.bits c.args.source.now in
+pub returns-then-q-scene : goal.returns-then-q-scene
+returns-then-q-scene g c =
+    let d = description c.args.scene.now.tables.now in
+    let bits = g.S.Source.bits c.args.scene.now.source.now in
     let v = c.deref-table.ensures.value in
     let some : c.args.self.now.extension < length d.extensions = subst (λ (es : List Extension). c.args.self.now.extension < length es) v c.if-i-count.false in
     let is : c.record_at-extension.result ≡ extension_at d (c.args.self.now.extension + 1) = c.record_at-extension.ensures ∙ ap (λ (es : List Extension). entry es (c.args.self.now.extension + 1) no_extension) v in
-    let own : eqb c.record_at-extension.result.class c.args.about.class ≡ true = grind (arith, nat_tests) in
-    let last : eqb c.in-Ok.q c.args.about.window.end ≡ true = grind (arith, nat_tests) in
+    let own : eqb c.record_at-extension.result.class c.args.scene.now.about.class ≡ true = grind (arith, nat_tests) in
+    let last : eqb c.in_ok-q.q c.args.scene.now.about.window.end ≡ true = grind (arith, nat_tests) in
     quietly_at (same-inner c.requires.none refl)
     (record {
-      same = extensions_end d bits (object_of c.args.about) (inner_of c.args.self.now) c.args.p c.requires.none c.record_at-extension.result is some own c.in-Ok.q c.in-Ok.ensures.value last (length c.deref-table.result.now) (subst (λ (es : List Extension). length d.extensions ≤ length es) (sym v) (omega arith));
+      same = extensions_end d bits (object_of c.args.scene.now.about) (inner_of c.args.self.now) c.args.scene.now.place c.requires.none c.record_at-extension.result is some own c.in_ok-q.q (tried_ok c.record_at-extension.result.first c.args.scene.now.place c.aligned.result _ c.in_ok-q.ensures ∙ c.aligned.ensures.value) last (length c.deref-table.result.now) (subst (λ (es : List Extension). length d.extensions ≤ length es) (sym v) (omega arith));
       fit = none_fit d [] refl;
-      near = omega (arith, c.in-Ok.ensures.bound.1, c.requires.short);
+      near = omega (arith, IfOk-at_ok (λ q. q ≤ c.args.scene.now.about.window.end) (sym (tried_ok c.record_at-extension.result.first c.args.scene.now.place c.aligned.result _ c.in_ok-q.ensures)) c.aligned.ensures.bound, c.args.scene.now.within, g.S.Source.short c.args.scene.now.source.now);
     })
 
-pub returns-else-q-about : goal.returns-else-q-about
-returns-else-q-about g c =
-    let d = description c.args.tables.now in
-    let bits = g.S.Source.bits c.args.source.now in
+pub returns-else-q-scene : goal.returns-else-q-scene
+returns-else-q-scene g c =
+    let d = description c.args.scene.now.tables.now in
+    let bits = g.S.Source.bits c.args.scene.now.source.now in
     let v = c.deref-table.ensures.value in
     let some : c.args.self.now.extension < length d.extensions = subst (λ (es : List Extension). c.args.self.now.extension < length es) v c.if-i-count.false in
     let is : c.record_at-extension.result ≡ extension_at d (c.args.self.now.extension + 1) = c.record_at-extension.ensures ∙ ap (λ (es : List Extension). entry es (c.args.self.now.extension + 1) no_extension) v in
-    let own : eqb c.record_at-extension.result.class c.args.about.class ≡ true = grind (arith, nat_tests) in
-    let more : eqb c.in-Ok.q c.args.about.window.end ≡ false = grind (arith, nat_tests) in
+    let own : eqb c.record_at-extension.result.class c.args.scene.now.about.class ≡ true = grind (arith, nat_tests) in
+    let more : eqb c.in_ok-q.q c.args.scene.now.about.window.end ≡ false = grind (arith, nat_tests) in
     quietly_at (same-inner (c.push.ensures ∙ ap (◌∷◌ (Lines c.record_at-extension.result.first c.record_at-extension.result.number)) c.requires.none) refl)
     (record {
-      same = extension_begins d bits (object_of c.args.about) (inner_of c.args.self.now) c.args.p c.requires.none c.record_at-extension.result is some own c.in-Ok.q c.in-Ok.ensures.value more;
-      fit = extension_room d bits (object_of c.args.about) (inner_of c.args.self.now) c.args.p c.requires.none c.record_at-extension.result is some c.requires.readable;
-      near = omega (arith, c.in-Ok.ensures.bound.1, c.requires.short);
+      same = extension_begins d bits (object_of c.args.scene.now.about) (inner_of c.args.self.now) c.args.scene.now.place c.requires.none c.record_at-extension.result is some own c.in_ok-q.q (tried_ok c.record_at-extension.result.first c.args.scene.now.place c.aligned.result _ c.in_ok-q.ensures ∙ c.aligned.ensures.value) more;
+      fit = extension_room d bits (object_of c.args.scene.now.about) (inner_of c.args.self.now) c.args.scene.now.place c.requires.none c.record_at-extension.result is some c.args.scene.now.readable;
+      near = omega (arith, IfOk-at_ok (λ q. q ≤ c.args.scene.now.about.window.end) (sym (tried_ok c.record_at-extension.result.first c.args.scene.now.place c.aligned.result _ c.in_ok-q.ensures)) c.aligned.ensures.bound, c.args.scene.now.within, g.S.Source.short c.args.scene.now.source.now);
     })
 
-pub returns-in-Err : goal.returns-in-Err
-returns-in-Err g c =
-    let d = description c.args.tables.now in
-    let bits = g.S.Source.bits c.args.source.now in
+pub returns-in_err-q : goal.returns-in_err-q
+returns-in_err-q g c =
+    let d = (description c.args.scene.now.tables.now) in
+    let bits = g.S.Source.bits c.args.scene.now.source.now in
     let v = c.deref-table.ensures.value in
     let some : c.args.self.now.extension < length d.extensions = subst (λ (es : List Extension). c.args.self.now.extension < length es) v c.if-i-count.false in
     let is : c.record_at-extension.result ≡ extension_at d (c.args.self.now.extension + 1) = c.record_at-extension.ensures ∙ ap (λ (es : List Extension). entry es (c.args.self.now.extension + 1) no_extension) v in
-    let own : eqb c.record_at-extension.result.class c.args.about.class ≡ true = grind (arith, nat_tests) in
-    record {
-      same = λ obj. extension_fails d bits (object_of c.args.about) (inner_of c.args.self.now) c.args.p c.requires.none c.record_at-extension.result is some own _ c.in-Err.ensures.value obj ∙ ap stop (sym c.fault_of.ensures);
+    let own : eqb c.record_at-extension.result.class c.args.scene.now.about.class ≡ true = grind (arith, nat_tests) in
+    let p = err_from_is_err_and c.from_residual.result c.from_residual.ensures.1 in
+    let t = tried_err c.record_at-extension.result.first c.args.scene.now.place c.aligned.result _ c.in_err-q.ensures in
+    rw (p.1, p.2) (record {
+      same = λ obj. extension_fails (description c.args.scene.now.tables.now) bits (object_of c.args.scene.now.about) (inner_of c.args.self.now) c.args.scene.now.place c.requires.none c.record_at-extension.result is some own t.0 (t.1 ∙ c.aligned.ensures.value) obj ∙ ap stop t.2;
       fit = none_fit d _ c.requires.none;
-    }
+    })

@@ -7,21 +7,23 @@ use Rattle.objects.proofs.Sames.{same-inner, begins_at, room_under, fit_under}
 use Rattle.objects.proofs.inside.Inside.next_counted.Goals as goal
 
 pub returns-then-index-total : goal.returns-then-index-total
-returns-then-index-total c = λ bits.
+returns-then-index-total g c =
+    let bits = g.S.Source.bits c.args.scene.now.source.now in
     record {
-      same = counted_end (description c.args.tables.now) bits (object_of c.args.about) (inner_of c.args.self.now) c.args.p c.args.line c.args.fields c.args.index c.args.total (omega arith);
-      fit = fit_under (description c.args.tables.now) _ _ c.requires.fit;
-      near = c.requires.near;
+      same = counted_end (description c.args.scene.now.tables.now) bits (object_of c.args.scene.now.about) (inner_of c.args.self.now) c.args.scene.now.place c.args.line c.args.fields c.args.index c.args.total (omega arith);
+      fit = fit_under (description c.args.scene.now.tables.now) _ _ c.requires.fit;
+      near = c.args.scene.now.near;
     }
 
 pub push-requires : goal.push-requires
-push-requires c = room_under (description c.args.tables.now) (Counted c.args.line c.args.fields c.args.index c.args.total) refl c.requires.fit
+push-requires g c = room_under (description c.args.scene.now.tables.now) (Counted c.args.line c.args.fields c.args.index c.args.total) refl c.requires.fit
 
 pub returns : goal.returns
-returns c = λ bits.
+returns g c =
+    let bits = g.S.Source.bits c.args.scene.now.source.now in
     begins_at (same-inner c.push.ensures refl)
     (record {
-      same = counted_begins (description c.args.tables.now) bits (object_of c.args.about) (inner_of c.args.self.now) c.args.p c.args.line c.args.fields c.args.index c.args.total (omega arith);
-      fit = counted_room (description c.args.tables.now) bits (object_of c.args.about) (inner_of c.args.self.now) c.args.p c.args.line c.args.fields c.args.index c.args.total c.requires.fit;
-      writes = counted_name (description c.args.tables.now) bits (object_of c.args.about) (inner_of c.args.self.now) c.args.p c.args.line c.args.fields c.args.index c.args.total c.requires.fit;
+      same = counted_begins (description c.args.scene.now.tables.now) bits (object_of c.args.scene.now.about) (inner_of c.args.self.now) c.args.scene.now.place c.args.line c.args.fields c.args.index c.args.total (omega arith);
+      fit = counted_room (description c.args.scene.now.tables.now) bits (object_of c.args.scene.now.about) (inner_of c.args.self.now) c.args.scene.now.place c.args.line c.args.fields c.args.index c.args.total c.requires.fit;
+      writes = counted_name (description c.args.scene.now.tables.now) bits (object_of c.args.scene.now.about) (inner_of c.args.self.now) c.args.scene.now.place c.args.line c.args.fields c.args.index c.args.total c.requires.fit;
     })

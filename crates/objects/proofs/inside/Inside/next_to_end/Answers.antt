@@ -1,5 +1,7 @@
 use Rattle.std.proofs.Common.{◌≡◌, ◌≤◌, true, leb, ◌⊎◌, sym, refl, ap, ◌∙◌, inl, inr, arith}
 use Rattle.table.specs.Description.{description}
+use Rattle.rules.specs.declared.faults.Failure.{Failure}
+use Rattle.rules.specs.Checks.{fault}
 use Rattle.rules.specs.Trace.{stop}
 use Rattle.objects.specs.declared.frame.Frame.TheVariants.{Uncounted}
 use Rattle.objects.specs.Ahead.{inner_of, object_of}
@@ -10,38 +12,41 @@ use Rattle.objects.proofs.inside.Inside.next_to_end.Goals as goal
 use Rattle.objects.proofs.inside.Inside.next_to_end.Goals.{else-index-fields-via-then-index-fields+else-not-at_end, else-index-fields-via-else-index-fields}
 
 pub push-requires : goal.push-requires
-push-requires c = room_under (description c.args.tables.now) (Uncounted c.args.line c.args.fields c.args.index) refl c.requires.fit
+push-requires g c = room_under (description c.args.scene.now.tables.now) (Uncounted c.args.line c.args.fields c.args.index) refl c.requires.fit
 
 pub returns-then-not-at_end : goal.returns-then-not-at_end
-returns-then-not-at_end c = λ bits.
+returns-then-not-at_end g c =
+    let bits = g.S.Source.bits c.args.scene.now.source.now in
     begins_at (same-inner c.push.ensures refl)
     (record {
-      same = to_end_begins (description c.args.tables.now) bits (object_of c.args.about) (inner_of c.args.self.now) c.args.p c.args.line c.args.fields c.args.index (omega arith) (sym c.at_end.ensures ∙ c.if-not-at_end.true);
-      fit = to_end_room (description c.args.tables.now) bits (object_of c.args.about) (inner_of c.args.self.now) c.args.p c.args.line c.args.fields c.args.index c.requires.fit;
-      writes = to_end_name (description c.args.tables.now) bits (object_of c.args.about) (inner_of c.args.self.now) c.args.p c.args.line c.args.fields c.args.index c.requires.fit;
+      same = to_end_begins (description c.args.scene.now.tables.now) bits (object_of c.args.scene.now.about) (inner_of c.args.self.now) c.args.scene.now.place c.args.line c.args.fields c.args.index (omega arith) (sym c.at_end.ensures ∙ c.if-not-at_end.true);
+      fit = to_end_room (description c.args.scene.now.tables.now) bits (object_of c.args.scene.now.about) (inner_of c.args.self.now) c.args.scene.now.place c.args.line c.args.fields c.args.index c.requires.fit;
+      writes = to_end_name (description c.args.scene.now.tables.now) bits (object_of c.args.scene.now.about) (inner_of c.args.self.now) c.args.scene.now.place c.args.line c.args.fields c.args.index c.requires.fit;
     })
 
 pub returns-then-index-fields-2 : goal.returns-then-index-fields-2
-returns-then-index-fields-2 c = λ bits.
-    let ended : (c.args.fields.most ≤ c.args.index) ⊎ (leb c.args.about.window.end (next_multiple 8 c.args.p) ≡ true) =
+returns-then-index-fields-2 g c =
+    let bits = g.S.Source.bits c.args.scene.now.source.now in
+    let ended : (c.args.fields.most ≤ c.args.index) ⊎ (leb c.args.scene.now.about.window.end (next_multiple 8 c.args.scene.now.place) ≡ true) =
     elim c.else-index-fields.branch [
       | else-index-fields-via-then-index-fields+else-not-at_end w ↦ inr (sym w.at_end.ensures ∙ w.if-not-at_end.false)
       | else-index-fields-via-else-index-fields w ↦ inl w.if-index-fields.false
     ] in
     record {
-      same = λ obj. to_end_stops (description c.args.tables.now) bits (object_of c.args.about) (inner_of c.args.self.now) c.args.p c.args.line c.args.fields c.args.index ended c.if-index-fields-2.true obj ∙ ap stop (sym c.fault_of.ensures);
-      fit = fit_under (description c.args.tables.now) _ _ c.requires.fit;
+      same = λ obj. to_end_stops (description c.args.scene.now.tables.now) bits (object_of c.args.scene.now.about) (inner_of c.args.self.now) c.args.scene.now.place c.args.line c.args.fields c.args.index ended c.if-index-fields-2.true obj ∙ ap stop (sym (c.at.ensures ∙ ap (λ (f : Failure). fault f.cause c.args.line f.node c.args.scene.now.place) c.from.ensures));
+      fit = fit_under (description c.args.scene.now.tables.now) _ _ c.requires.fit;
     }
 
 pub returns : goal.returns
-returns c = λ bits.
-    let ended : (c.args.fields.most ≤ c.args.index) ⊎ (leb c.args.about.window.end (next_multiple 8 c.args.p) ≡ true) =
+returns g c =
+    let bits = g.S.Source.bits c.args.scene.now.source.now in
+    let ended : (c.args.fields.most ≤ c.args.index) ⊎ (leb c.args.scene.now.about.window.end (next_multiple 8 c.args.scene.now.place) ≡ true) =
     elim c.else-index-fields.branch [
       | else-index-fields-via-then-index-fields+else-not-at_end w ↦ inr (sym w.at_end.ensures ∙ w.if-not-at_end.false)
       | else-index-fields-via-else-index-fields w ↦ inl w.if-index-fields.false
     ] in
     record {
-      same = to_end_ends (description c.args.tables.now) bits (object_of c.args.about) (inner_of c.args.self.now) c.args.p c.args.line c.args.fields c.args.index ended c.if-index-fields-2.false;
-      fit = fit_under (description c.args.tables.now) _ _ c.requires.fit;
-      near = c.requires.near;
+      same = to_end_ends (description c.args.scene.now.tables.now) bits (object_of c.args.scene.now.about) (inner_of c.args.self.now) c.args.scene.now.place c.args.line c.args.fields c.args.index ended c.if-index-fields-2.false;
+      fit = fit_under (description c.args.scene.now.tables.now) _ _ c.requires.fit;
+      near = c.args.scene.now.near;
     }

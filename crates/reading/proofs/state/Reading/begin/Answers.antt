@@ -3,7 +3,7 @@ use Rattle.table.specs.Description.{description}
 use Rattle.reading.proofs.state.Reading.begin.Goals as goal
 
 pub invariant_of-result : goal.invariant_of-result
-invariant_of-result g c = record { readable = ∣ c.requires ∣₁; sound = ∣ c.new.ensures.1 (description c.args.tables.now) ∣₁ }
+invariant_of-result g c = record { readable = c.requires; sound = c.new.ensures.1 (description c.args.tables.now) }
 
 pub returns : goal.returns
 returns g c =

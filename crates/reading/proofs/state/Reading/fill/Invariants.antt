@@ -1,4 +1,3 @@
-use Rattle.std.proofs.Common.{◌-◌, length}
 use Rattle.reading.specs.Reads.{ahead}
 use Rattle.reading.proofs.Filling.{Filling}
 use Rattle.reading.proofs.state.Reading.fill.Given as goal
@@ -6,6 +5,3 @@ use Rattle.reading.proofs.state.Reading.fill.Given as goal
 abbrev pub invariant-loop-count : goal.invariant-loop-count
 invariant-loop-count g l =
     Filling (ahead g.S.Source.bits l.initial.self) l.initial.table l.count l.table (ahead g.S.Source.bits l.self)
-
-abbrev pub decreases-loop-count : goal.decreases-loop-count
-decreases-loop-count g l = length l.initial.table - l.count

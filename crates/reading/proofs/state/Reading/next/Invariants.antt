@@ -2,10 +2,10 @@ use Rattle.std.proofs.Common.{◌≡◌, None}
 use Rattle.reading.specs.Reads.{ahead, skipped, passes}
 use Rattle.reading.proofs.state.Reading.next.Given as goal
 
-abbrev pub invariant-loop-item : goal.invariant-loop-item
-invariant-loop-item g l =
+abbrev pub invariant-loop-answer : goal.invariant-loop-answer
+invariant-loop-answer g l =
     (l.self.fault ≡ None) × (skipped (ahead g.S.Source.bits l.self) ≡ skipped (ahead g.S.Source.bits l.initial.self))
     × (l.self.position ≡ l.initial.self.position)
 
-abbrev pub decreases-loop-item : goal.decreases-loop-item
-decreases-loop-item g l = passes (ahead g.S.Source.bits l.self)
+abbrev pub decreases-loop-answer : goal.decreases-loop-answer
+decreases-loop-answer g l = passes (ahead g.S.Source.bits l.self)

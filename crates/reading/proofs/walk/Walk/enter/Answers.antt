@@ -1,5 +1,7 @@
 use Rattle.std.proofs.Common.{◌≡◌, ◌≤◌, true, not, ◌||◌, eqb, ◌∷◌, length, sym, ap, ◌∙◌, subst, arith}
 use Rattle.table.specs.Description.{description}
+use Rattle.rules.specs.declared.faults.Failure.{Failure}
+use Rattle.rules.specs.Checks.{fault}
 use Rattle.rules.specs.Trace.{out, stop}
 use Rattle.rules.specs.Lookups.{greatest}
 use Rattle.rules.specs.Reading.{inner}
@@ -12,7 +14,7 @@ use Rattle.reading.proofs.walk.Walk.enter.Goals.{else-class-eq0-via-then-class-e
 pub returns-then-greatest-eq0 : goal.returns-then-greatest-eq0
 returns-then-greatest-eq0 c = λ bits w e.
     record {
-      same = begin_unknown (description c.args.tables.now) bits (objects_of c.args.self.now) c.args.used.line c.args.used.class c.args.used.index c.args.used.carried c.args.used.receiving c.args.window c.args.self.now.place c.requires.room c.args.header e (sym c.object_class-class.ensures ∙ c.if-class-eq0.true) (sym c.requires.most ∙ c.if-greatest-eq0.true) ∙ ap stop (sym c.fault_of.ensures);
+      same = begin_unknown (description c.args.tables.now) bits (objects_of c.args.self.now) c.args.used.line c.args.used.class c.args.used.index c.args.used.carried c.args.used.receiving c.args.window c.args.self.now.place c.requires.room c.args.header e (sym c.object_class-class.ensures ∙ c.if-class-eq0.true) (sym c.requires.most ∙ c.if-greatest-eq0.true) ∙ ap stop (sym (c.at.ensures ∙ ap (λ (f : Failure). fault f.cause c.args.used.line f.node c.args.self.now.place) c.from.ensures));
       sound = c.requires.sound;
     }
 

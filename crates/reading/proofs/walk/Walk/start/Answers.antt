@@ -1,6 +1,6 @@
 use Rattle.std.proofs.Common.{refl, arith}
 use Rattle.table.specs.Description.{description}
-use Rattle.reading.proofs.Stepping.{none_open, none_sound, start_run, turned_from}
+use Rattle.reading.proofs.Stepping.{none_open, none_sound, start_run, answered_from}
 use Rattle.reading.proofs.walk.Walk.start.Goals as goal
 
 pub begin-requires : goal.begin-requires
@@ -9,11 +9,9 @@ begin-requires g c =
       sound = none_sound (description c.args.tables.now) _ refl refl;
       readable = c.requires.readable;
       writes = omega arith;
-      within = omega (arith, c.requires.whole);
-      short = omega (arith, c.requires.whole, g.S.Source.short c.args.source.now);
     }
 
 pub returns : goal.returns
 returns g c =
-    turned_from (description c.args.tables.now) (g.S.Source.bits c.args.source.now) c.begin.result c.begin.new.self
+    answered_from (description c.args.tables.now) (g.S.Source.bits c.args.source.now) c.begin.result c.begin.new.self
     (start_run (description c.args.tables.now) (g.S.Source.bits c.args.source.now) _ c.args.count (none_open _ refl) c.requires.whole) c.begin.ensures

@@ -6,4 +6,4 @@ use Rattle.table.proofs.loaded.Loaded.statement.Goals as goal
 
 pub returns : goal.returns
 unfolding statement_at
-returns c = c.statement.ensures ∙ ap (λ (l : Line). statement l) c.line.ensures
+returns c = c.from.ensures ∙ ap (λ (l : Line). statement l) c.line.ensures

@@ -1,0 +1,6 @@
+-- Tests of records by their numbers, or of stretches.
+use Rattle.std.specs.Prelude.{◌≡◌, Bool}
+
+-- what the test `f`, whose calls have the results that `post` says, answers of x is p x
+abbrev pub Answers : {F X : Type 0} → (post : F → X → Bool → Type 0) → F → (p : X → Bool) → Type 0
+Answers {F} {X} post f p = (x : X) (r : Bool) → post f x r → r ≡ p x
