@@ -22,7 +22,7 @@ pub fn put_bits(bytes: &mut [u8], p: u32, n: u32, value: u64) -> Result<(), Refu
 
 // Stores the n lowest bits of `value` from place p on, byte by byte.
 fn store(bytes: &mut [u8], p: u32, n: u32, value: u64)
-    requires { (n ≤ 32) × (p + n ≤ length bytes.old * 8) }
+    requires { (n ≤ 64) × (p + n ≤ length bytes.old * 8) }
     ensures { bits_all 8 bytes.new ≡ with_bits (bits_all 8 bytes.old) p n value }
 {
     let start = p as usize;

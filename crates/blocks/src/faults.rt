@@ -10,7 +10,7 @@ use passes::naming::pass;
 use records::faults::{Cause, Fault, Table};
 use table::loaded::Loaded;
 
-// Each rule has a function of its own, here and in the crates above, since each has its own definition to be equal to.
+// Each rule has a function of its own, since each has its own definition to be equal to.
 
 // The first line that is not in exactly one stretch.
 fn outside_fault(loaded: &Loaded) -> Option<Fault>
@@ -30,7 +30,7 @@ fn line_stretch_fault(loaded: &Loaded) -> Option<Fault>
     })
 }
 
-// The same. Where every stretch is a sound block, no block runs past what holds it.
+// The same answer, found faster: where every stretch is a sound block, no block runs past what holds it.
 pub fn stretch_fault(loaded: &Loaded) -> Option<Fault>
     ensures { result ≡ stretch_fault (description loaded.now) }
 {

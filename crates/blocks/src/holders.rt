@@ -70,7 +70,7 @@ fn past(loaded: &Loaded, n: usize) -> bool
 }
 
 // Whether line n is not in exactly one stretch, or has a block past what holds it.
-pub(crate) fn line_stretch(loaded: &Loaded, n: usize) -> bool
+pub fn line_stretch(loaded: &Loaded, n: usize) -> bool
     ensures { result ≡ line_stretch (description loaded.now) n }
 {
     !in_one(loaded, n) || past(loaded, n)
@@ -98,7 +98,7 @@ fn deep_in(loaded: &Loaded, stretch: Stretch, n: usize) -> bool
 }
 
 // Whether an if or while line n stands inside at least eight blocks.
-pub(crate) fn line_depth(loaded: &Loaded, n: usize) -> bool
+pub fn line_depth(loaded: &Loaded, n: usize) -> bool
     ensures { result ≡ line_depth (description loaded.now) n }
 {
     has_blocks(loaded.statement(n)) && some_stretch(loaded, |stretch| deep_in(loaded, stretch, n))

@@ -7,11 +7,11 @@ ghost use Rattle.passes.specs.Naming.{named};
 ghost use Rattle.checked.specs.Fields.{top_field_fault, field_fault};
 
 use fields::tables::top_fine;
-use passes::naming::{named, of_top};
+use passes::naming::{of_top, pass};
 use records::counts::Counts;
 use records::faults::{Cause, Fault, Table};
 use table::loaded::Loaded;
-use table::record::{Record, first_broken};
+use table::record::{Record, record_at};
 
 // Whether the top class is not there, as a fault.
 fn top_field_fault(loaded: &Loaded) -> Option<Fault>
@@ -24,7 +24,9 @@ fn top_field_fault(loaded: &Loaded) -> Option<Fault>
 fn table_field_fault<R: Record>(table: Table, records: &[R], counts: Counts) -> Option<Fault>
     ensures { result ≡ named Field table (first_upto (broken_at (R.broken counts) R.none records.now) (length records.now)) }
 {
-    named(Cause::Field, table, first_broken(records, counts))
+    pass(Cause::Field, table, records.len(), |n| {
+        record_at(records, n).breaks(counts, n)
+    })
 }
 
 // The first record whose fields are not fine; any row will do.

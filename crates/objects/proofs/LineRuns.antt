@@ -66,13 +66,6 @@ module _ (d : Description) (bits : List Bool) (o : Object) (c : Inner) (p : ℕ)
         (omega arith, m, lines_fit d line after c.frames (record { high = omega arith; fit = r.fit }))
 
   -- a count, or 1 where no node gives one
-  pub counted_none : (k : ℕ) → k ≡ 0 → counted d bits o (state p c) k ≡ Ok 1
-  counted_none k e = rw e refl
-
-  pub counted_some : (k : ℕ) → 0 < k → counted d bits o (state p c) k ≡ natural 65535 (valued d bits o (state p c) k)
-  counted_some zero h = absurd (omega arith)
-  counted_some (suc k) h = refl
-
   -- an index is read, and its row's output handed out
   module _ (line after map name : ℕ) where
     pub map_fails : (f : Failure) → Err f ≡ mapped bits o.window (map_at d map).width (map_output d map) p → (obj : Objects)

@@ -26,6 +26,3 @@ module _ (xs : List ℤ) (n : ℕ) (v : ℤ) (h : n < length xs) where
 pub write-at : (xs : List ℤ) (name : ℕ) (v : ℤ) → 0 < name → name ≤ length xs → named_by (set xs (name - 1) v) ≡ write name v (named_by xs)
 write-at xs zero v s h = absurd (omega arith)
 write-at xs (suc n) v s h = let e : suc n - 1 ≡ n = omega arith in rw e (written xs n v (omega arith))
-
-pub write_none : (xs : List ℤ) (name : ℕ) (v : ℤ) → name ≡ 0 → named_by xs ≡ write name v (named_by xs)
-write_none xs name v e = rw e refl

@@ -32,11 +32,7 @@ impl Frames {
         if self.depth == 0 {
             return None;
         }
-        let top = if self.depth < MOST {
-            self.depth - 1
-        } else {
-            MOST - 1
-        };
+        let top = self.depth.min(MOST) - 1;
         self.depth = top;
         Some(self.room[top])
     }

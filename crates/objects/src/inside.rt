@@ -25,5 +25,6 @@ pub struct About {
 pub struct Inside {
     pub(crate) frames: Frames,
     pub(crate) extension: usize,
+    // in a fixed array, as nothing is allocated after opening
     pub(crate) names: [i64; 128],
 }

@@ -27,6 +27,7 @@ impl<S: Source> Scene<'_, S> {
     pub(crate) fn tried<T>(&self, line: u16, step: Result<T, Failure>) -> Result<T, ReadingFault>
         ensures { result ≡ tried line self.now.place step }
     {
+        // by a match: `map_err` was tried, and its proof did not close
         match step {
             Ok(value) => Ok(value),
             Err(failure) => Err(failure.at(line, self.place)),

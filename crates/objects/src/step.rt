@@ -62,7 +62,8 @@ impl Inside {
         }
     }
 
-    // One step: what comes first of what the object has to do.
+    // One step: what comes first of what the object has to do. One match over a closed set of frames, which the open objects keep: closures
+    // would be boxed, and nothing is allocated after opening.
     pub fn step<S: Source>(&mut self, scene: &Scene<S>) -> Result<Move, ReadingFault>
         requires fit { Fit (description scene.now.tables.now) (frames self.old.frames) }
         ensures { InsideMoved (description scene.now.tables.now) (S.bits scene.now.source.now) (object_of scene.now.about) self.old scene.now.place result self.new }

@@ -13,8 +13,8 @@ pub(crate) struct NextLine {
     pub(crate) statement: Statement,
 }
 
-// The first of `count` lines from `at` on whose kind there is, if there is one. A loop that steps by hand, as it counts the lines that are left
-// and ends where the table does; a chain would look at each line past its end.
+// The first of `count` lines from `at` on whose kind there is, if there is one. A loop that steps by hand: it goes by the lines' numbers, of which
+// 0 is none, ends where the table does, and says how many lines are left.
 pub(crate) fn next_line(lines: &[Line], at: u32, count: u16) -> Option<NextLine>
     requires { length lines.now ≤ 65534 }
     ensures { Comes lines.now at count result }

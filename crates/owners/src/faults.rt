@@ -9,6 +9,8 @@ use passes::naming::{named, pass};
 use records::faults::{Cause, Fault, Table};
 use table::loaded::Loaded;
 
+// Each rule has a function of its own, since each has its own definition to be equal to.
+
 // The first line that uses what does not rank below its class.
 pub fn rank_fault(loaded: &Loaded) -> Option<Fault>
     ensures { result ≡ rank_fault (description loaded.now) }

@@ -45,7 +45,7 @@ fn carries_wrong(loaded: &Loaded, s: Statement) -> bool
 }
 
 // Whether line n has a name in its fields that is not its to take.
-pub(crate) fn line_owner(loaded: &Loaded, n: usize) -> bool
+pub fn line_owner(loaded: &Loaded, n: usize) -> bool
     ensures { result ≡ line_owner (description loaded.now) n }
 {
     let line = loaded.statement(n);

@@ -35,7 +35,7 @@ fn uses_wrong(loaded: &Loaded, user: usize, s: Statement) -> bool
 }
 
 // Whether line n uses what does not rank below its class.
-pub(crate) fn line_rank(loaded: &Loaded, n: usize) -> bool
+pub fn line_rank(loaded: &Loaded, n: usize) -> bool
     ensures { result ≡ line_rank (description loaded.now) n }
 {
     uses_wrong(loaded, class_of_line(loaded, n), loaded.statement(n))

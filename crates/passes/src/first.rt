@@ -2,8 +2,7 @@ ghost use Rattle.std.specs.Prelude.{◌≡◌, ℕ, ◌≤◌, Bool};
 ghost use Rattle.table.specs.First.{first_upto, some_upto, count_upto};
 ghost use Rattle.passes.specs.Tests.{Answers};
 
-// The first of the numbers 1 to `count` that passes the test. A loop and no chain: the library says nothing of what `1..=count` yields,
-// and from 0 each number would be turned twice.
+// The first of the numbers 1 to `count` that passes the test.
 #[tactic(auto, using(table::proofs::Scans::first_none, table::proofs::Scans::first_found, table::proofs::Scans::first_passed))]
 pub fn first<F: Fn(usize) -> bool>(count: usize, test: F) -> Option<usize>
     requires { F.IsAlwaysCallable test }
@@ -25,7 +24,7 @@ pub fn some<F: Fn(usize) -> bool>(count: usize, test: F) -> bool
     first(count, test).is_some()
 }
 
-// How many of them pass. A loop for the same reason.
+// How many of them pass.
 #[tactic(auto, using(table::proofs::Scans::count_none, table::proofs::Scans::count_passed, table::proofs::Scans::count_left))]
 pub fn count<F: Fn(usize) -> bool>(count: usize, test: F) -> usize
     requires { F.IsAlwaysCallable test }

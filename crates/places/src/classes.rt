@@ -97,7 +97,7 @@ fn overlaps(loaded: &Loaded, n: usize, m: usize) -> bool
 }
 
 // Whether something of class n, or of a member and its base, is where it does not belong.
-pub(crate) fn class_place(loaded: &Loaded, n: usize) -> bool
+pub fn class_place(loaded: &Loaded, n: usize) -> bool
     ensures { result ≡ class_place (description loaded.now) n }
 {
     let count = loaded.classes.len();

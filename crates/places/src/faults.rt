@@ -9,6 +9,8 @@ use passes::naming::{of_top, pass};
 use records::faults::{Cause, Fault, Table};
 use table::loaded::Loaded;
 
+// Each rule has a function of its own, since each has its own definition to be equal to.
+
 // Whether the top class is a member, as a fault.
 fn top_place_fault(loaded: &Loaded) -> Option<Fault>
     ensures { result ≡ top_place_fault (description loaded.now) }

@@ -31,7 +31,7 @@ fn index_wrong(loaded: &Loaded, n: usize, m: usize) -> bool
 }
 
 // Whether row n's index is too wide, or repeated, in some map.
-pub(crate) fn row_place(loaded: &Loaded, n: usize) -> bool
+pub fn row_place(loaded: &Loaded, n: usize) -> bool
     ensures { result ≡ row_place (description loaded.now) n }
 {
     some(loaded.maps.len(), |m| index_wrong(loaded, n, m))

@@ -14,7 +14,7 @@ pub(crate) fn top_wrong(loaded: &Loaded) -> bool
 }
 
 // Whether extension n is of a base, or of what is not expandable.
-pub(crate) fn extension_place(loaded: &Loaded, n: usize) -> bool
+pub fn extension_place(loaded: &Loaded, n: usize) -> bool
     ensures { result ≡ extension_place (description loaded.now) n }
 {
     let class = loaded.extension(n).class as usize;
@@ -58,7 +58,7 @@ fn statement_wrong(loaded: &Loaded, s: Statement) -> bool
 }
 
 // Whether line n is where it does not belong.
-pub(crate) fn line_place(loaded: &Loaded, n: usize) -> bool
+pub fn line_place(loaded: &Loaded, n: usize) -> bool
     ensures { result ≡ line_place (description loaded.now) n }
 {
     statement_wrong(loaded, loaded.statement(n))

@@ -163,10 +163,6 @@ module _ (d : Description) (bits : List Bool) where
           rw m refl
 
   -- the value that an object hands on
-  pub none_receive : (carried receiving : ℕ) (s : State) → rest_from d bits [] (received carried receiving s []) ≡ rest d bits [] s.place
-  unfolding rest_from
-  none_receive carried receiving s = refl
-
   pub one_receives : (carried receiving : ℕ) (s : State) (b : OpenObject) (j : Inside) (os : List OpenObject)
       → inner_of j ≡ with_names (write receiving (s.names carried) (named_by b.inside.names)) (inner_of b.inside)
       → rest_from d bits (b ∷ os) (received carried receiving s (b ∷ os)) ≡ rest d bits (record { about = b.about; inside = j } ∷ os) s.place

@@ -40,17 +40,6 @@ pub record Filling (before : Run (Unit {0})) (table : List Item) (count : ℕ) (
   pub ends : ends_as (length table) before ≡ ends_as (length table - count) now
   pub after : ahead_after (length table) before ≡ ahead_after (length table - count) now
 
-pub filling_starts : (before : Run (Unit {0})) (table : List Item) → Filling before table 0 table before
-filling_starts before table =
-    record {
-      few = omega arith;
-      long = refl;
-      items = rw sub-zero refl;
-      others = refl;
-      ends = rw sub-zero refl;
-      after = rw sub-zero refl;
-    }
-
 module _ (before : Run (Unit {0})) (table : List Item) (count : ℕ) (filled : List Item) (now : Run (Unit {0})) (f : Filling before table count filled now) where
   module _ (room : count < length table) where
     left : length table - count ≡ suc (length table - (count + 1))

@@ -35,13 +35,14 @@ fn first_member(classes: &[Class], base: u16, id: u16) -> u16
     requires { length classes.now ≤ 65535 }
     ensures { result ≡ first_member classes.now base id }
 {
+    // by a match: `map_or` was tried, and its proof did not close
     match member_index(classes, base, id) {
         Some(i) => (i + 1) as u16,
         None => 0,
     }
 }
 
-// The class of an object of a declared class with an id, 0 if the id is unknown.
+// The class of an object of a declared class with an id, 0 if the id is unknown. No Option: the item hands the 0 on.
 pub(crate) fn object_class(tables: &Loaded, declared: u16, id: u16) -> u16
     ensures { result ≡ object_class (description tables.now) declared id }
 {

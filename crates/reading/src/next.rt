@@ -25,7 +25,7 @@ fn item_end(item: Item, place: u32) -> u64
     }
 }
 
-// How a table was filled. Three ways, so no Result.
+// How a table was filled. No Result, since a full table is none of the answers of `next`.
 #[derive(Clone, Copy)]
 pub enum Filled {
     // there was no more room

@@ -2,8 +2,8 @@ use crate::open_object::OpenObject;
 use rules::faults::ReadingFault;
 use rules::items::Item;
 
-// Where a reading stands: the open objects, the innermost last, and the place. No `ArrayVec`, for the same reason as in `Frames`; it would
-// write a blank of 1,552 bytes at each close besides.
+// Where a reading stands: the open objects, the innermost last, and the place. No `ArrayVec`: at each close it would
+// write a blank over the whole object, with its 128 names.
 #[derive(Clone, Copy)]
 pub struct Walk {
     pub(crate) objects: [OpenObject; 16],

@@ -80,7 +80,7 @@ fn innermost(depth: usize) -> usize
     requires { 0 < depth }
     ensures { min depth 16 ≡ suc result }
 {
-    if depth < MOST { depth - 1 } else { MOST - 1 }
+    depth.min(MOST) - 1
 }
 
 // The item of an object's beginning.

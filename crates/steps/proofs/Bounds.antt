@@ -5,9 +5,6 @@ use Rattle.rules.specs.declared.faults.ReadingCause.TheVariants.{OutsideBounds}
 use Rattle.rules.specs.Checks.{Check, then, ensure, fails}
 use Rattle.rules.specs.Steps.{bounded}
 
-pub unbounded : (n : ℕ) (bound : Check ℤ) (kept : ℤ → Bool) → n ≡ 0 → Ok tt ≡ bounded n bound kept
-unbounded n bound kept e = rw e
-
 next : (n : ℕ) (bound : Check ℤ) (kept : ℤ → Bool) → 0 < n → bounded n bound kept ≡ then bound λ b. ensure (kept b) OutsideBounds
 next zero bound kept h = absurd (omega arith)
 next (suc n) bound kept h = refl

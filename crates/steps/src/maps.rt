@@ -11,8 +11,8 @@ use rules::lookups::output;
 use rules::steps::Got;
 use table::record::record_at;
 
-// The output of the row with an index, among `number` rows from `first` on. The rows go by number, since those past the table are no rows,
-// whose index is 0.
+// The output of the row with an index, among `number` rows from `first` on. A loop by number: a row past the table counts as
+// one whose index is 0, so a chain over the rows that are there would not do.
 pub fn find_row(rows: &[Row], first: u16, number: u16, index: u64) -> Result<i64, Failure>
     ensures { (d : Description) → d.rows ≡ rows.now → result ≡ find_row d first number index }
 {

@@ -4,7 +4,6 @@ use Rattle.std.proofs.lemmas.Bool.Decides.{leb_tells}
 use Rattle.std.proofs.lemmas.List.{get_or_past, get_or_read}
 use Rattle.table.specs.First.{or_else, when, is_some, first_upto, some_upto, count_upto}
 use Rattle.table.specs.Description.{entry}
-use Rattle.table.specs.Fields.{broken_at}
 
 pub first_none : (p : ℕ → Bool) → first_upto p 0 ≡ None
 unfolding first_upto
@@ -87,17 +86,3 @@ pub entry_some : {A : Type 0} (xs : List A) (n : ℕ) (none x : A) → 0 < n →
 unfolding entry
 entry_some xs zero none x p q e = absurd (omega arith)
 entry_some xs (suc n) none x p q e = let k : suc n - 1 ≡ n = omega arith in get_or_read xs n x (omega arith) (rw k at e) none
-
--- A table's records one by one.
-module _ {R : Type 0} (broken : ℕ → R → Bool) (none : R) (table : List R) (i : ℕ) (x : R) (within : i < length table) (read : x ≡ get_or table i x) where
-  met : x ≡ entry table (i + 1) none
-  met = let k : i + 1 - 1 ≡ i = omega arith in entry_some table (i + 1) none x (omega arith) (omega arith) (rw k read)
-
-  said : (b : Bool) → b ≡ broken (i + 1) x → b ≡ broken_at broken none table (i + 1)
-  said b e = rw (e, met)
-
-  pub first_broken : first_upto (broken_at broken none table) i ≡ None → true ≡ broken (i + 1) x → Some (i + 1) ≡ first_upto (broken_at broken none table) (length table)
-  first_broken e h = first_found (broken_at broken none table) i (length table) within e (said true h)
-
-  pub first_fit : first_upto (broken_at broken none table) i ≡ None → false ≡ broken (i + 1) x → first_upto (broken_at broken none table) (i + 1) ≡ None
-  first_fit e h = first_passed (broken_at broken none table) i e (said false h)

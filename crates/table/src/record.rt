@@ -41,7 +41,7 @@ pub trait Record: Copy + Drop + Default {
 }
 
 // The 16-bit number at `at`, most significant byte first.
-pub(crate) fn word(bytes: &[u8], at: usize) -> u16
+pub fn word(bytes: &[u8], at: usize) -> u16
     requires { at + 2 ≤ length bytes.now }
     ensures { result ≡ word_at bytes.now at }
 {
@@ -76,17 +76,4 @@ pub fn record_at<R: Record>(table: &[R], n: usize) -> R
     } else {
         table[n - 1]
     }
-}
-
-// The first record of a table that breaks the rule for its fields, whatever the kind. A rule asks for the record's number, counted from 1,
-// so a chain of enumerate, find and map is no plainer: it would count from 0 and turn the number twice.
-pub fn first_broken<R: Record>(table: &[R], counts: Counts) -> Option<usize>
-    ensures { result ≡ first_upto (broken_at (R.broken counts) R.none table.now) (length table.now) }
-{
-    for i in 0..table.len() {
-        if table[i].breaks(counts, i + 1) {
-            return Some(i + 1);
-        }
-    }
-    None
 }

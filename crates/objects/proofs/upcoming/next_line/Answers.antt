@@ -3,9 +3,6 @@ use Rattle.records.specs.Statements.{statement}
 use Rattle.objects.proofs.Codes.{code_none, code-past, known_of, line_passed, line_next}
 use Rattle.objects.proofs.upcoming.next_line.Goals as goal
 
-pub overflow_cast-line : goal.overflow_cast-line
-overflow_cast-line c = omega (arith, c.loop-left.invariant.1)
-
 pub returns-then-line-lines : goal.returns-then-line-lines
 returns-then-line-lines c = c.loop-left.invariant.0 ∙ code-past c.args.lines.now c.loop-left.line c.loop-left.left (omega arith)
 

@@ -1,11 +1,8 @@
 use Rattle.std.proofs.Common.{Err, sym, ap, ◌∙◌, arith, rules, to_z-of_z, w64, SFits}
 use Rattle.std.proofs.lemmas.Result.{err_from_is_err_and}
 use Rattle.values.specs.Scopes.{value_in}
-use Rattle.steps.proofs.Bounds.{unbounded, bound_fails, bound_broken, bound_kept}
+use Rattle.steps.proofs.Bounds.{bound_fails, bound_broken, bound_kept}
 use Rattle.steps.proofs.elements.bounded.Goals as goal
-
-pub returns-then-node-eq0 : goal.returns-then-node-eq0
-returns-then-node-eq0 g c = λ kept a. unbounded c.args.node (value_in c.args.scope.now c.args.node) kept c.if-node-eq0.true
 
 pub returns-in_err-value : goal.returns-in_err-value
 returns-in_err-value g c = λ kept a.

@@ -1,9 +1,8 @@
-use Rattle.std.proofs.Common.{◌≡◌, suc, min, arith}
+use Rattle.std.proofs.Common.{◌≡◌, suc, ◌-◌, min, arith}
 use Rattle.objects.specs.Frames.{frames}
 use Rattle.objects.specs.declared.frame.Frame.TheVariants.{Lines}
 use Rattle.objects.proofs.Stacks.{stack_none, stack_pop}
 use Rattle.objects.proofs.frames.Frames.pop.Goals as goal
-use Rattle.objects.proofs.frames.Frames.pop.Goals.{then-self-lt-MOST, else-self-lt-MOST}
 
 pub returns-then-self-eq0 : goal.returns-then-self-eq0
 unfolding frames
@@ -13,6 +12,5 @@ returns-then-self-eq0 c =
 pub returns : goal.returns
 unfolding frames
 returns c =
-    let h : min c.args.self.now.depth 20 ≡ suc c.if-self-lt-MOST.top =
-    elim c.if-self-lt-MOST.branch [ then-self-lt-MOST w ↦ omega (arith, w.top-is) | else-self-lt-MOST w ↦ omega (arith, w.top-is) ] in
-    stack_pop (Lines 0 0) c.args.self.now.room c.args.self.now.depth 20 c.if-self-lt-MOST.top h
+    let h : min c.args.self.now.depth 20 ≡ suc (c.min-top.result - 1) = omega (arith, c.min-top.ensures, c.if-self-eq0.false) in
+    stack_pop (Lines 0 0) c.args.self.now.room c.args.self.now.depth 20 (c.min-top.result - 1) h

@@ -1,16 +1,12 @@
-use Rattle.std.proofs.Common.{◌+◌, ◌-◌, [], ◌∷◌, sym, refl, ap, ◌∙◌, subst, arith}
+use Rattle.std.proofs.Common.{◌+◌, ◌-◌, [], ◌∷◌, sym, refl, ap, ◌∙◌, subst}
 use Rattle.table.specs.Description.{description}
 use Rattle.objects.specs.declared.frame.Frame.TheVariants.{Lines, Rounds}
 use Rattle.objects.specs.Frames.{frames}
 use Rattle.objects.specs.Ahead.{inner_of, object_of}
 use Rattle.objects.specs.Ahead.{Fit, Inner, inner_run}
 use Rattle.objects.proofs.FrameRuns.{while_run, while_room, moved_from}
-use Rattle.objects.proofs.Sames.{same-inner, room_two}
+use Rattle.objects.proofs.Sames.{same-inner}
 use Rattle.objects.proofs.inside.Inside.begin_rounds.Goals as goal
-
-pub push-requires : goal.push-requires
-push-requires g c =
-    let h = room_two (description c.args.scene.now.tables.now) _ _ (frames c.args.self.now.frames) (let bits = [] in while_room (description c.args.scene.now.tables.now) bits (object_of c.args.scene.now.about) (inner_of c.args.self.now) c.args.scene.now.place c.args.line c.args.after c.args.node c.args.lines c.args.rounds c.requires.room) in omega arith
 
 pub round-requires : goal.round-requires
 round-requires g c =
