@@ -34,7 +34,8 @@ fn store(bytes: &mut [u8], p: u32, n: u32, value: u64)
     }
 }
 
-// The byte with the m lowest bits of x above its `tail` lowest bits. By shifts and masks, as the library has no word for bits within a byte.
+// The byte with the m lowest bits of x above its `tail` lowest bits. By shifts and masks, as the library has no word
+// for bits within a byte.
 fn with_piece(byte: u8, m: usize, tail: usize, x: u64) -> u8
     requires { m + tail ≤ 8 }
     ensures { result ≡ with_piece byte m tail x }

@@ -5,7 +5,7 @@ use Rattle.std.proofs.lemmas.Bool.Decides.{leb_tells}
 use Rattle.table.specs.Description.{Description, statement_at, class_at, extension_at}
 use Rattle.table.specs.First.{is_some, first_upto, some_upto}
 use Rattle.table.proofs.Scans.{none_pass, first_agree, no_some}
-use Rattle.passes.specs.Stretches.{in_stretch}
+use Rattle.records.specs.Stretches.{in_stretch}
 use Rattle.blocks.specs.Nesting.{has_blocks, in_first, in_second, taken, block_sound, line_sound}
 use Rattle.blocks.specs.Sound.{class_unsound, extension_unsound, some_unsound}
 use Rattle.blocks.specs.Stretches.{in_one, ends_before, past_block, past_in, past_in_class, past_in_extension, past, line_stretch}

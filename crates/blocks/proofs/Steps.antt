@@ -1,5 +1,5 @@
 -- The recursion equation of `block-sound`, with no bound in it, and that of the recursion over levels.
-use Rattle.std.proofs.Common.{◌≡◌, ℕ, zero, suc, ◌+◌, ◌-◌, ◌<◌, ◌≤◌, Bool, true, false, cond, not, ◌&&◌, ◌||◌, eqb, ltb, leb, sym, refl, ap, ◌∙◌, arith, ltb-false, ltb-true, lt-ltb, ne_eqb}
+use Rattle.std.proofs.Common.{◌≡◌, ℕ, zero, suc, ◌+◌, ◌-◌, ◌<◌, ◌≤◌, Bool, true, false, cond, not, ◌&&◌, ◌||◌, eqb, ltb, leb, sym, refl, ap, ◌∙◌, arith, ltb-false, ltb-true, lt-ltb, ne_eqb, Option}
 use mathlib.Core.Path.{fun_ext}
 use Rattle.std.proofs.lemmas.Bool.{and_parts, not-true}
 use Rattle.records.specs.declared.statements.Statement.{Statement}
@@ -31,7 +31,7 @@ module _ (d : Description) where
       ap (λ (z : Sounds). block_sound_by z d i n e) (agreed n _ _ (λ j m k h. enough n (suc m) j m k h (omega arith)))
 
   -- A line that fits asks shorter blocks only.
-  line_same : (b : Bool) (g : Sounds) (l : Statement) (i n e : ℕ) → ltb n (taken l) ≡ b → line_sound_by (shorter n g) l i n e ≡ line_sound_by g l i n e
+  line_same : (b : Bool) (g : Sounds) (l : Option Statement) (i n e : ℕ) → ltb n (taken l) ≡ b → line_sound_by (shorter n g) l i n e ≡ line_sound_by g l i n e
   line_same true g l i n e q = rw q
   line_same false g l i n e q =
       let h = ltb-false n (taken l) q in

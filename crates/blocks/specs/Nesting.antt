@@ -1,46 +1,47 @@
--- Blocks directly follow their if or while line. A block is sound when each of its lines is, and a line when each of its blocks is.
-use Rattle.std.specs.Prelude.{ℕ, zero, suc, ◌+◌, ◌-◌, Bool, true, false, cond, not, ◌&&◌, ◌||◌, ◌==◌, nat_le, nat_lt}
+-- Blocks directly follow their if or while line. A block is sound when each of its lines is, and a line when each of
+-- its blocks is.
+use Rattle.std.specs.Prelude.{ℕ, zero, suc, ◌+◌, ◌-◌, Bool, true, false, cond, not, ◌&&◌, ◌||◌, ◌==◌, nat_le, nat_lt, Option, Some, None}
 use Rattle.records.specs.declared.statements.Statement.{Statement}
-use Rattle.records.specs.declared.statements.Statement.TheVariants.{Read, Assign, MapRead, Use, If, While, Unknown}
+use Rattle.records.specs.declared.statements.Statement.TheVariants.{Read, Assign, MapRead, Use, If, While}
 use Rattle.fields.specs.Nodes.{is_operator}
 use Rattle.table.specs.Description.{Description, statement_at, node_at}
 
 -- an if or while line has blocks
-abbrev pub has_blocks : Statement → Bool
-has_blocks (Read fields) = false
-has_blocks (Assign name node) = false
-has_blocks (MapRead map name) = false
-has_blocks (Use fields) = false
-has_blocks (If node first second) = true
-has_blocks (While node lines rounds) = true
-has_blocks Unknown = false
+abbrev pub has_blocks : Option Statement → Bool
+has_blocks (Some (Read fields)) = false
+has_blocks (Some (Assign name node)) = false
+has_blocks (Some (MapRead map name)) = false
+has_blocks (Some (Use fields)) = false
+has_blocks (Some (If node first second)) = true
+has_blocks (Some (While node lines rounds)) = true
+has_blocks None = false
 
 -- the lines in a line's first block, and in its second
-abbrev pub in_first : Statement → ℕ
-in_first (Read fields) = 0
-in_first (Assign name node) = 0
-in_first (MapRead map name) = 0
-in_first (Use fields) = 0
-in_first (If node first second) = first
-in_first (While node lines rounds) = lines
-in_first Unknown = 0
+abbrev pub in_first : Option Statement → ℕ
+in_first (Some (Read fields)) = 0
+in_first (Some (Assign name node)) = 0
+in_first (Some (MapRead map name)) = 0
+in_first (Some (Use fields)) = 0
+in_first (Some (If node first second)) = first
+in_first (Some (While node lines rounds)) = lines
+in_first None = 0
 
-abbrev pub in_second : Statement → ℕ
-in_second (Read fields) = 0
-in_second (Assign name node) = 0
-in_second (MapRead map name) = 0
-in_second (Use fields) = 0
-in_second (If node first second) = second
-in_second (While node lines rounds) = 0
-in_second Unknown = 0
+abbrev pub in_second : Option Statement → ℕ
+in_second (Some (Read fields)) = 0
+in_second (Some (Assign name node)) = 0
+in_second (Some (MapRead map name)) = 0
+in_second (Some (Use fields)) = 0
+in_second (Some (If node first second)) = second
+in_second (Some (While node lines rounds)) = 0
+in_second None = 0
 
 -- a line with its blocks
-abbrev pub taken : Statement → ℕ
+abbrev pub taken : Option Statement → ℕ
 taken s = 1 + in_first s + in_second s
 
--- Line i, with `room` lines left in what holds it, inside `depth` blocks, is sound: its blocks lie in that room, it has none inside
--- eight blocks, and each is sound. `inner` says whether a block is.
-abbrev pub line_sound_by : (inner : ℕ → ℕ → ℕ → Bool) → Statement → (i room depth : ℕ) → Bool
+-- Line i, with `room` lines left in what holds it, inside `depth` blocks, is sound: its blocks lie in that room, it
+-- has none inside eight blocks, and each is sound. `inner` says whether a block is.
+abbrev pub line_sound_by : (inner : ℕ → ℕ → ℕ → Bool) → Option Statement → (i room depth : ℕ) → Bool
 line_sound_by inner s i room depth =
     not (nat_lt room (taken s)) && not (has_blocks s && nat_le 8 depth)
     && inner (i + 1) (in_first s) (depth + 1) && inner (i + 1 + in_first s) (in_second s) (depth + 1)

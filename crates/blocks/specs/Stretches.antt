@@ -1,9 +1,10 @@
--- Each line in one stretch of a class or extension, and its blocks inside what holds it; blocks and nodes at most 8 deep.
+-- Each line in one stretch of a class or extension, and its blocks inside what holds it; blocks and nodes at most 8
+-- deep.
 use Rattle.std.specs.Prelude.{ℕ, ◌+◌, Bool, not, ◌&&◌, ◌||◌, length, ◌==◌, nat_le, nat_lt}
 use Rattle.table.specs.Description.{Description, class_at, extension_at, statement_at}
 use Rattle.table.specs.First.{some_upto, count_upto}
-use Rattle.passes.specs.Stretches.{in_stretch}
-use Rattle.passes.specs.declared.stretches.Stretch.{Stretch}
+use Rattle.records.specs.Stretches.{in_stretch}
+use Rattle.records.specs.declared.stretches.Stretch.{Stretch}
 use Rattle.blocks.specs.Nesting.{has_blocks, in_first, in_second, taken, deeper}
 
 -- a stretch of a class or extension passes

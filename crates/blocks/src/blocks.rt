@@ -9,31 +9,31 @@ use table::loaded::Loaded;
 pub(crate) const DEEPEST: usize = 8;
 
 // Whether a line has blocks.
-pub(crate) fn has_blocks(s: Statement) -> bool
+pub(crate) fn has_blocks(s: Option<Statement>) -> bool
     ensures { result ≡ has_blocks s }
 {
-    matches!(s, Statement::If { .. } | Statement::While { .. })
+    matches!(s, Some(Statement::If { .. } | Statement::While { .. }))
 }
 
 // The lines in a line's first block.
-pub(crate) fn in_first(s: Statement) -> usize
+pub(crate) fn in_first(s: Option<Statement>) -> usize
     ensures value { result ≡ in_first s }
     ensures bound { result < 65536 }
 {
     match s {
-        Statement::If { first, .. } => first as usize,
-        Statement::While { lines, .. } => lines as usize,
+        Some(Statement::If { first, .. }) => first as usize,
+        Some(Statement::While { lines, .. }) => lines as usize,
         _ => 0,
     }
 }
 
 // The lines in its second block.
-pub(crate) fn in_second(s: Statement) -> usize
+pub(crate) fn in_second(s: Option<Statement>) -> usize
     ensures value { result ≡ in_second s }
     ensures bound { result < 65536 }
 {
     match s {
-        Statement::If { second, .. } => second as usize,
+        Some(Statement::If { second, .. }) => second as usize,
         _ => 0,
     }
 }

@@ -1,29 +1,21 @@
 ghost use Rattle.std.specs.Prelude.{◌≡◌, ℕ, ◌+◌, ◌<◌};
 ghost use Rattle.table.specs.Description.{description, statement_at};
-ghost use Rattle.passes.specs.Stretches.{in_stretch};
+ghost use Rattle.records.specs.Stretches.{in_stretch};
 ghost use Rattle.blocks.specs.Nesting.{taken};
 ghost use Rattle.blocks.specs.Stretches.{ends_before, past_block, past_in, past, line_stretch, holds, deep_in, line_depth};
 
 use crate::blocks::{DEEPEST, has_blocks, in_first, in_second};
 use crate::stretches::{in_one, some_stretch};
 use passes::first::{count, some};
-use passes::stretches::Stretch;
+use records::stretches::Stretch;
 use table::loaded::Loaded;
 
-// Whether the `count` lines from `start` on hold line n.
-fn in_lines(start: usize, count: usize, n: usize) -> bool
-    requires { (start < 4294967296) × (count < 4294967296) }
-    ensures { result ≡ in_stretch start count n }
-{
-    start <= n && n < start + count
-}
-
-// Whether they do, and end before `end`.
+// Whether the `count` lines from `start` on hold line n, and end before `end`.
 fn ends_before(start: usize, count: usize, n: usize, end: usize) -> bool
     requires { (start < 4294967296) × (count < 4294967296) }
     ensures { result ≡ ends_before start count n end }
 {
-    in_lines(start, count, n) && start + count < end
+    (start..start + count).contains(&n) && start + count < end
 }
 
 // The end of line n's blocks.
@@ -84,7 +76,7 @@ fn holds(loaded: &Loaded, stretch: Stretch, n: usize, m: usize) -> bool
         return false;
     }
     let line = loaded.statement(m);
-    in_lines(m + 1, in_first(line) + in_second(line), n)
+    (m + 1..m + 1 + in_first(line) + in_second(line)).contains(&n)
 }
 
 // Whether line n is in a stretch, and in blocks of at least eight of its lines.

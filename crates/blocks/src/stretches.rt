@@ -1,13 +1,13 @@
 ghost use Rattle.std.specs.Prelude.{◌≡◌, Bool};
 ghost use Rattle.table.specs.Description.{description};
-ghost use Rattle.passes.specs.Tests.{Answers};
-ghost use Rattle.passes.specs.declared.stretches.Stretch.{Stretch};
+ghost use Rattle.table.specs.Tests.{Answers};
+ghost use Rattle.records.specs.declared.stretches.Stretch.{Stretch};
 ghost use Rattle.blocks.specs.Stretches.{some_stretch, in_class, in_extension, in_one};
 ghost use Rattle.blocks.specs.Sound.{some_unsound};
 
 use crate::blocks::block_sound;
 use passes::first::{count, some};
-use passes::stretches::Stretch;
+use records::stretches::Stretch;
 use table::loaded::Loaded;
 
 // Whether a stretch of a class or extension passes the test.
@@ -23,8 +23,8 @@ pub(crate) fn some_stretch<F: Fn(Stretch) -> bool>(loaded: &Loaded, test: F) -> 
     })
 }
 
-// Whether line n is in the stretch of class c. This and the next are two, since what holds a line asks for classes first, by number, and
-// then for extensions.
+// Whether line n is in the stretch of class c. This and the next are two, since what holds a line asks for classes
+// first, by number, and then for extensions.
 pub fn in_class(loaded: &Loaded, n: usize, c: usize) -> bool
     ensures { result ≡ in_class (description loaded.now) n c }
 {

@@ -1,9 +1,24 @@
-// Items and descriptions as the cases write them.
+// What the lines of a case write: descriptions, items and faults.
 use anyhow::{Context, anyhow};
 use checked::checked::Checked;
 use rules::faults::{ReadingCause, ReadingFault};
 use rules::items::{Item, Kind};
 use std::alloc::Global;
+use std::str::{Lines, SplitWhitespace};
+
+// The words of a case after the first that is a name.
+pub(crate) fn words_after<'a>(case: &'a str, name: &str) -> SplitWhitespace<'a> {
+    let mut words = case.split_whitespace();
+    let _ = words.find(|word| *word == name);
+    words
+}
+
+// The lines of a case after the first that begins with a heading.
+pub(crate) fn lines_after<'a>(case: &'a str, heading: &str) -> Lines<'a> {
+    let mut lines = case.lines();
+    let _ = lines.find(|line| line.starts_with(heading));
+    lines
+}
 
 // The bytes that a text in hexadecimal writes; '-' is no byte.
 pub(crate) fn bytes_of(heap: Global, text: &str) -> anyhow::Result<Vec<u8>> {
@@ -11,50 +26,52 @@ pub(crate) fn bytes_of(heap: Global, text: &str) -> anyhow::Result<Vec<u8>> {
     hex::decode(heap, digits).context("not hexadecimal")
 }
 
-// The description that a text in hexadecimal writes, checked.
-pub(crate) fn description_of(heap: Global, text: &str) -> anyhow::Result<Checked> {
+// The description that stands in a case after a name, checked.
+pub(crate) fn description_after(heap: Global, case: &str, name: &str) -> anyhow::Result<Checked> {
+    let text = words_after(case, name)
+        .next()
+        .context("a case without a description")?;
     let bytes = bytes_of(heap, text)?;
     Checked::load(heap, bytes.as_slice()).map_err(|fault| anyhow!(
         "a description that is refused: {fault}"
     ))
 }
 
-// The numbers of a line.
-pub(crate) fn numbers_of(heap: Global, line: &str) -> anyhow::Result<Vec<i64>> {
-    let mut numbers = Vec::new(heap);
-    for word in line.split_whitespace() {
-        numbers.push(word.parse::<i64>()?)?;
+// The numbers of a line, which has so many.
+fn numbers_of<const N: usize>(line: &str) -> anyhow::Result<[i64; N]> {
+    let mut numbers = [0; N];
+    let mut words = line.split_whitespace();
+    for number in numbers.iter_mut() {
+        let word = words.next().context("a line with too few numbers")?;
+        *number = word.parse::<i64>()?;
+    }
+    if words.next().is_some() {
+        return Err(anyhow!("a line with too many numbers"));
     }
     Ok(numbers)
 }
 
 // The item that seven numbers write.
-pub(crate) fn item_of(heap: Global, line: &str) -> anyhow::Result<Item> {
-    let numbers = numbers_of(heap, line)?;
-    let [kind, line, class, index, value, place, length] = numbers.as_slice() else {
-        return Err(anyhow!("an item of other than seven numbers"));
-    };
+pub(crate) fn item_of(line: &str) -> anyhow::Result<Item> {
+    let [kind, line, class, index, value, place, length] = numbers_of::<7>(line)?;
     Ok(Item {
-        kind: Kind::try_from(u16::try_from(*kind)?)?,
-        line: u16::try_from(*line)?,
-        class: u16::try_from(*class)?,
-        index: u16::try_from(*index)?,
-        value: *value,
-        place: u32::try_from(*place)?,
-        length: u32::try_from(*length)?,
+        kind: Kind::try_from(u16::try_from(kind)?)?,
+        line: u16::try_from(line)?,
+        class: u16::try_from(class)?,
+        index: u16::try_from(index)?,
+        value,
+        place: u32::try_from(place)?,
+        length: u32::try_from(length)?,
     })
 }
 
 // A fault of the line, node and place that four numbers write. Striking asks nothing of the cause.
-pub(crate) fn fault_of(heap: Global, line: &str) -> anyhow::Result<ReadingFault> {
-    let numbers = numbers_of(heap, line)?;
-    let [_, line, node, place] = numbers.as_slice() else {
-        return Err(anyhow!("a fault of other than four numbers"));
-    };
+pub(crate) fn fault_of(line: &str) -> anyhow::Result<ReadingFault> {
+    let [_, line, node, place] = numbers_of::<4>(line)?;
     Ok(ReadingFault {
         cause: ReadingCause::Unchecked,
-        line: u16::try_from(*line)?,
-        node: u16::try_from(*node)?,
-        place: u32::try_from(*place)?,
+        line: u16::try_from(line)?,
+        node: u16::try_from(node)?,
+        place: u32::try_from(place)?,
     })
 }

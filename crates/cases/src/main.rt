@@ -5,21 +5,40 @@ mod descriptions;
 mod growth_cases;
 mod lines;
 mod operators;
+mod run;
 mod tally;
 
+use descriptions::check_agrees;
+use growth_cases::{grown_agrees, struck_agrees};
+use operators::value_agrees;
+use run::{BLOCKS, LINES, run};
+
 fn main(rt: HostRuntime) -> anyhow::Result<()> {
-    run(&rt)
+    run_all(&rt)
 }
 
-fn run(rt: &HostRuntime) -> anyhow::Result<()> {
+fn run_all(rt: &HostRuntime) -> anyhow::Result<()> {
+    let heap = rt.alloc();
     // answers that two independent models of the rules agree on
-    descriptions::run(rt, "check.txt")?;
+    run(rt, "check.txt", "", LINES, |case| check_agrees(heap, case))?;
     // each table at its largest count, and with one record more
-    descriptions::run(rt, "limits.txt")?;
+    run(rt, "limits.txt", "", LINES, |case| check_agrees(heap, case))?;
     // the value of one operator in each case
-    operators::run(rt)?;
+    run(
+        rt,
+        "operators.txt",
+        ", by evaluation",
+        BLOCKS,
+        |case| value_agrees(heap, case),
+    )?;
     // whether a newer description has grown from an older one
-    growth_cases::run(rt, "grown.txt")?;
+    run(rt, "grown.txt", "", LINES, |case| grown_agrees(heap, case))?;
     // and what is struck of the newer's items
-    growth_cases::run(rt, "grow.txt")
+    run(
+        rt,
+        "grow.txt",
+        "",
+        BLOCKS,
+        |case| Ok(grown_agrees(heap, case)? && struck_agrees(heap, case)?),
+    )
 }

@@ -1,8 +1,8 @@
 -- Ranks fall along a chain of uses, so it has at most 16 classes.
-use Rattle.std.proofs.Common.{◌≡◌, ℕ, ◌<◌, ◌≤◌, false, List, [], ◌∷◌, length, subst, arith, leb-false}
+use Rattle.std.proofs.Common.{◌≡◌, ℕ, ◌<◌, ◌≤◌, false, List, [], ◌∷◌, length, subst, arith, leb-false, Option, Some, None}
 use Rattle.std.proofs.lemmas.Bool.{not-false}
 use Rattle.records.specs.declared.statements.Statement.{Statement}
-use Rattle.records.specs.declared.statements.Statement.TheVariants.{Read, Assign, MapRead, Use, If, While, Unknown}
+use Rattle.records.specs.declared.statements.Statement.TheVariants.{Read, Assign, MapRead, Use, If, While}
 use Rattle.table.specs.Description.{Description, class_at, statement_at, counts_of}
 use Rattle.owners.specs.Lines.{class_of_line}
 use Rattle.owners.specs.Ranks.{not_below, uses_wrong}
@@ -13,15 +13,15 @@ use Rattle.checked.proofs.Held.{faultless, and_rest}
 use Rattle.checked.proofs.Numbered.{some_number, class_parts}
 
 module _ (d : Description) (ok : Faultless d) where
-  pub made_below : (user : ℕ) (s : Statement) → uses_wrong d user s ≡ false → (u : ℕ) → 0 < u → u ≤ length d.classes → MakesObject d s u → (class_at d u).rank < (class_at d user).rank
-  made_below user (Read fields) e u a b h = absurd h
-  made_below user (Assign name node) e u a b h = absurd h
-  made_below user (MapRead map name) e u a b h = absurd h
-  made_below user (Use fields) e u a b h =
+  pub made_below : (user : ℕ) (s : Option Statement) → uses_wrong d user s ≡ false → (u : ℕ) → 0 < u → u ≤ length d.classes → MakesObject d s u → (class_at d u).rank < (class_at d user).rank
+  made_below user (Some (Read fields)) e u a b h = absurd h
+  made_below user (Some (Assign name node)) e u a b h = absurd h
+  made_below user (Some (MapRead map name)) e u a b h = absurd h
+  made_below user (Some (Use fields)) e u a b h =
       leb-false _ _ (and_rest _ _ (no_some (not_below d user fields.class) (length d.classes) e u a b) h)
-  made_below user (If node first second) e u a b h = absurd h
-  made_below user (While node lines rounds) e u a b h = absurd h
-  made_below user Unknown e u a b h = absurd h
+  made_below user (Some (If node first second)) e u a b h = absurd h
+  made_below user (Some (While node lines rounds)) e u a b h = absurd h
+  made_below user None e u a b h = absurd h
 
   used_below : (c u : ℕ) → Uses d c u → 0 < u → u ≤ length d.classes → (class_at d u).rank < (class_at d c).rank
   used_below c u h a b =

@@ -1,5 +1,6 @@
 mod Loaded
 mod Numbered
+pub mod Booleans
 pub mod Chained
 pub mod Firsts
 pub mod Held

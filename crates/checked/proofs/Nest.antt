@@ -6,7 +6,7 @@ use Rattle.std.proofs.lemmas.Bool.Decides.{leb_tells}
 use Rattle.fields.specs.Values.{is_stretch}
 use Rattle.table.specs.Description.{Description, class_at, extension_at, statement_at, counts_of}
 use Rattle.table.specs.First.{some_upto, count_upto}
-use Rattle.passes.specs.Stretches.{in_stretch}
+use Rattle.records.specs.Stretches.{in_stretch}
 use Rattle.blocks.specs.Nesting.{has_blocks, in_first, in_second, taken, block_sound, line_sound}
 use Rattle.blocks.specs.Stretches.{in_one, past, past_block, past_in, past_in_class, past_in_extension, holds, deep_in, deep_in_class, deep_in_extension}
 use Rattle.blocks.proofs.Steps.{sound_step, sound_none}

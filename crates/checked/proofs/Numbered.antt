@@ -1,5 +1,5 @@
 -- Plain facts of fields that are fine.
-use Rattle.std.proofs.Common.{◌≡◌, ℕ, zero, suc, ◌+◌, ◌-◌, ◌<◌, ◌≤◌, Bool, true, false, cond, not, ◌&&◌, T, eqb, ltb, leb, refl, inl, inr, arith, ltb-true, ne_eqb, eqb-true, leb-true}
+use Rattle.std.proofs.Common.{◌≡◌, ℕ, zero, suc, ◌+◌, ◌-◌, ◌<◌, ◌≤◌, Bool, true, false, cond, not, ◌&&◌, eqb, ltb, leb, refl, inl, inr, arith, ltb-true, ne_eqb, eqb-true, leb-true}
 use borrow.Author.Tests.{eqb-false}
 use Rattle.std.proofs.lemmas.Bool.{not-true, and_parts}
 use Rattle.std.proofs.lemmas.Bool.Decides.{leb_tells}
@@ -110,8 +110,3 @@ name_there counts n x e h =
 pub from_zero : (P : ℕ → Type 0) (count : ℕ) → P 0 → ((n : ℕ) → 0 < n → n ≤ count → P n) → (n : ℕ) → n ≤ count → P n
 from_zero P count z h zero l = z
 from_zero P count z h (suc n) l = h (suc n) (omega arith) l
-
--- T, and tests
-pub TIs : (b : Bool) → T b → b ≡ true
-TIs true t = refl
-TIs false t = absurd t

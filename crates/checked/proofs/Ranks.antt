@@ -1,5 +1,5 @@
 -- What a line uses ranks below the line's class.
-use Rattle.std.proofs.Common.{◌≡◌, ℕ, zero, suc, ◌+◌, ◌<◌, ◌≤◌, Bool, true, false, not, ◌&&◌, T, eqb, leb, List, length, sym, refl, ◌∙◌, subst, inl, inr, arith, eq-eqb, leb-true}
+use Rattle.std.proofs.Common.{◌≡◌, ℕ, zero, suc, ◌+◌, ◌<◌, ◌≤◌, Bool, true, false, not, ◌&&◌, T, eqb, leb, List, length, sym, refl, ◌∙◌, subst, inl, inr, arith, eq-eqb, leb-true, Option, Some, None}
 use Rattle.std.proofs.lemmas.Bool.{true≢false, not-false, and_parts, or_parts, or_right}
 use Rattle.std.proofs.lemmas.Float.{T_from_false}
 use Rattle.std.proofs.lemmas.Bool.Decides.{leb_tells}
@@ -7,11 +7,12 @@ use Rattle.records.specs.Classes.{is_base, is_member}
 use Rattle.records.specs.Statements.{statement}
 use Rattle.records.specs.declared.records.Class.{Class}
 use Rattle.records.specs.declared.statements.Statement.{Statement}
-use Rattle.records.specs.declared.statements.Statement.TheVariants.{Read, Assign, MapRead, Use, If, While, Unknown}
+use Rattle.records.specs.declared.statements.Statement.TheVariants.{Read, Assign, MapRead, Use, If, While}
 use Rattle.fields.specs.Values.{names_one}
 use Rattle.fields.specs.Lines.{read_nodes_fine, use_fine, limits_fine, statement_fine}
 use Rattle.table.specs.Description.{Description, entry, no_class, no_extension, class_at, extension_at, line_at, statement_at, node_at, counts_of}
-use Rattle.table.proofs.Scans.{entry_zero, entry_none, no_some}
+use Rattle.table.proofs.Entries.{entry_none, entry_past}
+use Rattle.table.proofs.Scans.{no_some}
 use Rattle.owners.specs.Lines.{class_of_line}
 use Rattle.owners.specs.Ranks.{used_by}
 use Rattle.places.specs.Classes.{later, names_as_later}
@@ -21,22 +22,19 @@ use Rattle.checked.specs.Faultless.{Faultless}
 use Rattle.checked.specs.Sound.{Below, LineRanked, Ranked, RankedLaw}
 use Rattle.checked.proofs.Held.{faultless, and_rest, of_class, of_extension, in_one-holds}
 use Rattle.checked.proofs.Nest.{held_in}
-use Rattle.checked.proofs.Numbered.{some_number, in_table, base_there, no_base, extension_parts, operands, known_kind, TIs}
+use Rattle.checked.proofs.Booleans.{true_of, false_of}
+use Rattle.checked.proofs.Numbered.{some_number, in_table, base_there, no_base, extension_parts, operands, known_kind}
 use Rattle.checked.proofs.Chained.{made_below}
 use Rattle.checked.proofs.Sounds.{all_of, line_is_fine, as_statement, class_is_fine}
 
 -- a record, or what stands for none
 anywhere : {A : Type 0} (xs : List A) (none : A) (P : A → Type 0) → P none → ((n : ℕ) → 0 < n → n ≤ length xs → P (entry xs n none)) → (n : ℕ) → P (entry xs n none)
-anywhere xs none P z h zero = subst P (entry_zero xs 0 none refl) z
+anywhere xs none P z h zero = subst P (sym (entry_none xs none)) z
 anywhere xs none P z h (suc n) =
     elim (leb_tells (suc n) (length xs)) [
       | inl t ↦ h (suc n) (omega arith) t.1
-      | inr t ↦ subst P (entry_none xs (suc n) none t.1) z
+      | inr t ↦ subst P (sym (entry_past xs (suc n) none t.1)) z
     ]
-
-no_T : (b : Bool) → T (not b) → b ≡ false
-no_T true t = absurd t
-no_T false t = refl
 
 and_first : (x y : Bool) → (x && y) ≡ false → y ≡ true → x ≡ false
 and_first true y e h = absurd (true≢false (sym h ∙ e))
@@ -77,31 +75,31 @@ module _ (d : Description) (ok : Faultless d) where
         own = below class low high (uses_itself class);
         members = anywhere d.classes no_class (λ (x : Class). T (is_member x) → x.base ≡ class → x.rank < rank)
             (λ t e. absurd t)
-            (λ m a b t e. below m a b (uses_member class m a b (TIs _ t) e));
+            (λ m a b t e. below m a b (uses_member class m a b (true_of _ t) e));
       }
 
-  line_ranked : (rank : ℕ) (s : Statement) → statement_fine (counts_of d) s ≡ true → statement_wrong d s ≡ false → ((u : ℕ) → 0 < u → u ≤ length d.classes → MakesObject d s u → (class_at d u).rank < rank) → LineRanked d rank s
-  line_ranked rank (Read fields) e w below =
+  line_ranked : (rank : ℕ) (s : Option Statement) → statement_fine (counts_of d) s ≡ true → statement_wrong d s ≡ false → ((u : ℕ) → 0 < u → u ≤ length d.classes → MakesObject d s u → (class_at d u).rank < rank) → LineRanked d rank s
+  line_ranked rank (Some (Read fields)) e w below =
       let counts = counts_of d in
       let f = (and_parts (read_nodes_fine counts fields) _ e).0 in
       let p = and_parts (names_one fields.width counts.nodes && leb fields.count counts.nodes && leb fields.lowest counts.nodes) _ f in
       let q = and_parts (names_one fields.width counts.nodes && leb fields.count counts.nodes) _ p.0 in
       let r = and_parts (names_one fields.width counts.nodes) _ q.0 in
       (some_number fields.width (length d.nodes) r.0, leb-true fields.count _ r.1, leb-true fields.lowest _ q.1, leb-true fields.highest _ p.1)
-  line_ranked rank (Assign name node) e w below =
+  line_ranked rank (Some (Assign name node)) e w below =
       some_number node (length d.nodes) (and_parts (names_one name (length d.names)) _ e).1
-  line_ranked rank (MapRead map name) e w below = tt
-  line_ranked rank (Use fields) e w below =
+  line_ranked rank (Some (MapRead map name)) e w below = tt
+  line_ranked rank (Some (Use fields)) e w below =
       let counts = counts_of d in
       let p = (and_parts (use_fine counts fields && limits_fine fields) _ e).0 in
       let q = (and_parts (use_fine counts fields) _ p).0 in
       let r = and_parts (names_one fields.class counts.classes) _ q in
       let n = some_number fields.class (length d.classes) r.0 in
       (leb-true fields.count _ r.1, below_rank rank fields.class n.0 n.1 (or_parts _ _ w).0 below)
-  line_ranked rank (If node first second) e w below = some_number node (length d.nodes) e
-  line_ranked rank (While node lines rounds) e w below =
+  line_ranked rank (Some (If node first second)) e w below = some_number node (length d.nodes) e
+  line_ranked rank (Some (While node lines rounds)) e w below =
       some_number node (length d.nodes) (and_parts (names_one node (length d.nodes)) _ e).0
-  line_ranked rank Unknown e w below = tt
+  line_ranked rank None e w below = tt
 
   ranked_line : (n : ℕ) → 0 < n → n ≤ length d.lines → (c : ℕ) → class_of_line d n ≡ c → LineRanked d (class_at d c).rank (statement (line_at d n))
   ranked_line n low high c e =
@@ -126,7 +124,7 @@ module _ (d : Description) (ok : Faultless d) where
         ranks = λ c low high. some_number _ 16 (class_is_fine d ok c low high).rank;
         bases = anywhere d.classes no_class (λ (x : Class). T (not (is_member x)) → x.base ≡ 0)
             (λ t. refl)
-            (λ c low high t. no_base (counts_of d) (class_at d c) (class_is_fine d ok c low high).base (no_T _ t));
+            (λ c low high t. no_base (counts_of d) (class_at d c) (class_is_fine d ok c low high).base (false_of _ t));
         top =
             let t = some_number d.top (length d.classes) (not-false _ ok.top_there) in
             (t.0, t.1, T_from_false _ ok.top_no_member);

@@ -1,5 +1,5 @@
 -- What records name is there.
-use Rattle.std.proofs.Common.{◌≡◌, ℕ, zero, suc, ◌+◌, ◌<◌, ◌≤◌, Bool, true, false, cond, not, ◌&&◌, T, eqb, ltb, leb, ◌⊎◌, List, [], ◌∷◌, length, sym, refl, ap, ◌∙◌, subst, inl, inr, add_assoc, arith, ltb-true, lt-ltb, ne_eqb, eqb-true, leb-true}
+use Rattle.std.proofs.Common.{◌≡◌, ℕ, zero, suc, ◌+◌, ◌<◌, ◌≤◌, Bool, true, false, cond, not, ◌&&◌, T, eqb, ltb, leb, ◌⊎◌, List, [], ◌∷◌, length, sym, refl, ap, ◌∙◌, subst, inl, inr, add_assoc, arith, ltb-true, lt-ltb, ne_eqb, eqb-true, leb-true, Option, Some, None}
 use borrow.Author.Tests.{eqb-false}
 use Rattle.std.proofs.lemmas.Bool.{true≢false, not-false, and_parts, or_parts, both_ways}
 use Rattle.records.specs.Classes.{is_plain, is_base, is_member}
@@ -8,19 +8,20 @@ use Rattle.records.specs.declared.records.Class.{Class}
 use Rattle.records.specs.declared.records.Extension.{Extension}
 use Rattle.records.specs.declared.records.Line.{Line}
 use Rattle.records.specs.declared.statements.Statement.{Statement}
-use Rattle.records.specs.declared.statements.Statement.TheVariants.{Read, Assign, MapRead, Use, If, While, Unknown}
+use Rattle.records.specs.declared.statements.Statement.TheVariants.{Read, Assign, MapRead, Use, If, While}
 use Rattle.fields.specs.Values.{names_one, one_to_sixteen}
 use Rattle.fields.specs.Lines.{read_nodes_fine, use_fine, limits_fine, statement_fine}
 use Rattle.table.specs.Description.{Description, entry, no_class, no_extension, no_line, no_node, no_map, class_at, extension_at, line_at, statement_at, node_at, map_at, counts_of}
 use Rattle.table.specs.First.{count_upto}
-use Rattle.table.proofs.Scans.{entry_zero}
+use Rattle.table.proofs.Entries.{entry_none}
 use Rattle.passes.specs.Families.{in_family, expandable}
-use Rattle.passes.specs.Stretches.{in_stretch}
+use Rattle.records.specs.Stretches.{in_stretch}
 use Rattle.owners.specs.Names.{carry_wrong, carries_wrong}
 use Rattle.checked.specs.Faultless.{Faultless}
 use Rattle.checked.specs.Sound.{All, greatest, LineSound, in_classes, in_extensions, Sound, SoundLaw}
 use Rattle.checked.proofs.Held.{faultless, and_rest, sum_one, in_one-holds}
-use Rattle.checked.proofs.Numbered.{ClassParts, some_number, stretch, class_parts, base_there, extension_parts, name_there, from_zero, TIs}
+use Rattle.checked.proofs.Booleans.{true_of}
+use Rattle.checked.proofs.Numbered.{ClassParts, some_number, stretch, class_parts, base_there, extension_parts, name_there, from_zero}
 
 -- record by record
 later : {A : Type 0} (P : A → Type 0) (none x : A) (xs : List A) → ((n : ℕ) → 0 < n → n ≤ length (x ∷ xs) → P (entry (x ∷ xs) n none)) → (n : ℕ) → 0 < n → n ≤ length xs → P (entry xs n none)
@@ -94,7 +95,7 @@ found d n false false true false g base h e z q = let l = ltb-true 0 (class_at d
 found d n false false false b g base h e z q = let l = ltb-true 0 (class_at d 0).greatest q in absurd (omega arith)
 
 none_at_zero : (d : Description) → class_at d 0 ≡ no_class
-none_at_zero d = sym (entry_zero d.classes 0 no_class refl)
+none_at_zero d = entry_none d.classes no_class
 
 plain_no_member : (c : Class) → is_plain c ≡ true → is_member c ≡ false
 plain_no_member c e = let z = eqb-true c.kind 0 e in ne_eqb c.kind 2 (λ q. omega arith)
@@ -125,22 +126,22 @@ no_carry : (d : Description) (class carried receiving : ℕ) → 0 < class → c
 no_carry d class carried receiving low e (inr z) base g = z
 no_carry d class carried receiving low e (inl z) base g =
     let w = and_rest (not (eqb carried 0)) _ e (rw (ne_eqb carried 0 z)) in
-    absurd (both_ways _ (or_parts _ _ w).1 (base_expandable d class low (TIs _ base) g))
+    absurd (both_ways _ (or_parts _ _ w).1 (base_expandable d class low (true_of _ base) g))
 
 -- what a line names
-line_sound : (d : Description) (s : Statement) → statement_fine (counts_of d) s ≡ true → carries_wrong d s ≡ false → LineSound d s
-line_sound d (Read fields) e c =
+line_sound : (d : Description) (s : Option Statement) → statement_fine (counts_of d) s ≡ true → carries_wrong d s ≡ false → LineSound d s
+line_sound d (Some (Read fields)) e c =
     let counts = counts_of d in
     let f = (and_parts (read_nodes_fine counts fields) _ e).0 in
     let p = and_parts (names_one fields.width counts.nodes && leb fields.count counts.nodes && leb fields.lowest counts.nodes) _ f in
     let q = and_parts (names_one fields.width counts.nodes && leb fields.count counts.nodes) _ p.0 in
     let r = and_parts (names_one fields.width counts.nodes) _ q.0 in
     ((some_number fields.width (length d.nodes) r.0).1, leb-true fields.count _ r.1, leb-true fields.lowest _ q.1, leb-true fields.highest _ p.1)
-line_sound d (Assign name node) e c =
+line_sound d (Some (Assign name node)) e c =
     (some_number node (length d.nodes) (and_parts (names_one name (length d.names)) _ e).1).1
-line_sound d (MapRead map name) e c =
+line_sound d (Some (MapRead map name)) e c =
     (some_number map (length d.maps) (and_parts (names_one map (length d.maps)) _ e).0).1
-line_sound d (Use fields) e c =
+line_sound d (Some (Use fields)) e c =
     let counts = counts_of d in
     let p = and_parts (use_fine counts fields && limits_fine fields) _ e in
     let q = and_parts (use_fine counts fields) _ p.0 in
@@ -148,17 +149,17 @@ line_sound d (Use fields) e c =
     let n = some_number fields.class (length d.classes) r.0 in
     let k = carry_step (eqb fields.carried 0) fields.carried fields.receiving (length d.names) refl p.1 in
     (n.1, leb-true fields.count _ r.1, k.0, no_carry d fields.class fields.carried fields.receiving n.0 c k.1)
-line_sound d (If node first second) e c = (some_number node (length d.nodes) e).1
-line_sound d (While node lines rounds) e c =
+line_sound d (Some (If node first second)) e c = (some_number node (length d.nodes) e).1
+line_sound d (Some (While node lines rounds)) e c =
     (some_number node (length d.nodes) (and_parts (names_one node (length d.nodes)) _ e).0).1
-line_sound d Unknown e c = tt
+line_sound d None e c = tt
 
 module _ (d : Description) (ok : Faultless d) where
   pub line_is_fine : (n : ℕ) → 0 < n → n ≤ length d.lines → statement_fine (counts_of d) (statement_at d n) ≡ true
   unfolding statement_at
   line_is_fine n low high = (and_parts (statement_fine (counts_of d) (statement (line_at d n))) _ (not-false _ (ok.line_fields n low high))).0
 
-  pub as_statement : (P : Statement → Type 0) (n : ℕ) → P (statement_at d n) → P (statement (line_at d n))
+  pub as_statement : (P : Option Statement → Type 0) (n : ℕ) → P (statement_at d n) → P (statement (line_at d n))
   unfolding statement_at
   as_statement P n h = h
 
@@ -193,13 +194,13 @@ module _ (d : Description) (ok : Faultless d) where
         extensions = all_of _ no_extension d.extensions extension_sound;
         once = once d ok;
         lines = from_zero (λ n. LineSound d (statement (line_at d n))) (length d.lines)
-            (subst (λ (l : Line). LineSound d (statement l)) (entry_zero d.lines 0 no_line refl) tt)
+            (subst (λ (l : Line). LineSound d (statement l)) (sym (entry_none d.lines no_line)) tt)
             sound_line;
         nodes = from_zero (λ k. (node_at d k).op ≡ 2 → (node_at d k).a ≤ length d.names) (length d.nodes)
-            (λ h. rw (sym (entry_zero d.nodes 0 no_node refl)) (omega arith))
+            (λ h. rw (entry_none d.nodes no_node) (omega arith))
             (λ k low high h. name_there (counts_of d) k (node_at d k) (not-false _ (ok.node_fields k low high)) h);
         maps = from_zero (λ m. (map_at d m).first + (map_at d m).number ≤ suc (length d.rows)) (length d.maps)
-            (rw (sym (entry_zero d.maps 0 no_map refl)) (omega arith))
+            (rw (entry_none d.maps no_map) (omega arith))
             map_sound;
       }
 

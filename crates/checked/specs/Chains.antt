@@ -1,21 +1,21 @@
 -- At most 16 objects stand inside one another.
-use Rattle.std.specs.Prelude.{◌≡◌, ℕ, ◌<◌, ◌≤◌, true, List, [], ◌∷◌, length, None}
+use Rattle.std.specs.Prelude.{◌≡◌, ℕ, ◌<◌, ◌≤◌, true, List, [], ◌∷◌, length, None, Option, Some}
 use Rattle.records.specs.declared.statements.Statement.{Statement}
-use Rattle.records.specs.declared.statements.Statement.TheVariants.{Read, Assign, MapRead, Use, If, While, Unknown}
+use Rattle.records.specs.declared.statements.Statement.TheVariants.{Read, Assign, MapRead, Use, If, While}
 use Rattle.table.specs.Description.{Description, statement_at}
 use Rattle.owners.specs.Lines.{class_of_line}
 use Rattle.owners.specs.Ranks.{used_by}
 use Rattle.checked.specs.Check.{first_fault}
 
 -- a line can make an object whose lines are those of class u: u is the used class, or a member of it
-abbrev pub MakesObject : Description → Statement → (u : ℕ) → Type 0
-MakesObject d (Read fields) u = ⊥
-MakesObject d (Assign name node) u = ⊥
-MakesObject d (MapRead map name) u = ⊥
-MakesObject d (Use fields) u = used_by d fields.class u ≡ true
-MakesObject d (If node first second) u = ⊥
-MakesObject d (While node lines rounds) u = ⊥
-MakesObject d Unknown u = ⊥
+abbrev pub MakesObject : Description → Option Statement → (u : ℕ) → Type 0
+MakesObject d (Some (Read fields)) u = ⊥
+MakesObject d (Some (Assign name node)) u = ⊥
+MakesObject d (Some (MapRead map name)) u = ⊥
+MakesObject d (Some (Use fields)) u = used_by d fields.class u ≡ true
+MakesObject d (Some (If node first second)) u = ⊥
+MakesObject d (Some (While node lines rounds)) u = ⊥
+MakesObject d None u = ⊥
 
 -- a line of class c does
 abbrev pub Uses : Description → (c u : ℕ) → Type 0

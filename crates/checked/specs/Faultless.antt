@@ -46,7 +46,8 @@ pub record Nests (d : Description) : Type 0 where
   pub extension_nests :
       (e : ℕ) → 0 < e → e ≤ length d.extensions → block_sound d (extension_at d e).first (extension_at d e).number 0 ≡ true
 
--- a line of a stretch has the class of that stretch; what it writes, and what the nodes that it reaches take, belongs to that class or its base
+-- a line of a stretch has the class of that stretch; what it writes, and what the nodes that it reaches take, belongs
+-- to that class or its base
 pub record Owns (d : Description) : Type 0 where
   pub of_class :
       (n c : ℕ) → 0 < n → n ≤ length d.lines → 0 < c → c ≤ length d.classes → in_class d n c ≡ true → class_of_line d n ≡ c

@@ -1,4 +1,5 @@
--- What the first fault is, in the words of the rules: some rule names that record, and what else any rule names comes no earlier.
+-- What the first fault is, in the words of the rules: some rule names that record, and what else any rule names comes
+-- no earlier.
 use Rattle.std.specs.Prelude.{◌≡◌, ℕ, ◌<◌, ◌≤◌, Bool, true, ◌⊎◌, List, [], ◌∷◌, length, Some, None, Option}
 use Rattle.records.specs.Causes.{cause_number, table_number}
 use Rattle.records.specs.declared.faults.Cause.{Cause}

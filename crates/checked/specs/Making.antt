@@ -15,8 +15,8 @@ Makes (Some f) l (Ok c) = ⊥
 Makes None l (Err g) = ⊥
 Makes None l (Ok c) = c.loaded ≡ l
 
--- what loading and checking answer, by what the file gives: its fault, its description as checked, or that description's first fault;
--- for a file that is whole it may also be want of memory
+-- what loading and checking answer, by what the file gives: its fault, its description as checked, or that
+-- description's first fault; for a file that is whole it may also be want of memory
 abbrev pub Checks : Result Description Fault → Result Checked Fault → Type 0
 Checks (Err f) (Err g) = g ≡ f
 Checks (Err f) (Ok c) = ⊥

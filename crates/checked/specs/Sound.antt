@@ -1,11 +1,11 @@
 -- What readings rest on: what records name is there, and what a line uses ranks below its class.
-use Rattle.std.specs.Prelude.{◌≡◌, ℕ, suc, ◌+◌, ◌<◌, ◌≤◌, cond, not, ◌&&◌, T, List, [], ◌∷◌, length, None, nat_le, nat_lt}
+use Rattle.std.specs.Prelude.{◌≡◌, ℕ, suc, ◌+◌, ◌<◌, ◌≤◌, cond, not, ◌&&◌, T, List, [], ◌∷◌, length, None, nat_le, nat_lt, Option, Some}
 use Rattle.records.specs.Classes.{is_base, is_member}
 use Rattle.records.specs.Statements.{statement}
 use Rattle.records.specs.declared.records.Class.{Class}
 use Rattle.records.specs.declared.records.Extension.{Extension}
 use Rattle.records.specs.declared.statements.Statement.{Statement}
-use Rattle.records.specs.declared.statements.Statement.TheVariants.{Read, Assign, MapRead, Use, If, While, Unknown}
+use Rattle.records.specs.declared.statements.Statement.TheVariants.{Read, Assign, MapRead, Use, If, While}
 use Rattle.table.specs.Description.{Description, class_at, line_at, node_at, map_at}
 use Rattle.checked.specs.Check.{first_fault}
 
@@ -19,17 +19,17 @@ abbrev pub greatest : Description → ℕ → ℕ
 greatest d n = cond (is_member (class_at d n)) (class_at d (class_at d n).base).greatest (class_at d n).greatest
 
 -- the numbers of a line are those of records that are there; a use of an expandable family carries nothing
-abbrev pub LineSound : Description → Statement → Type 0
-LineSound d (Read fields) =
+abbrev pub LineSound : Description → Option Statement → Type 0
+LineSound d (Some (Read fields)) =
     (fields.width ≤ length d.nodes) × (fields.count ≤ length d.nodes) × (fields.lowest ≤ length d.nodes) × (fields.highest ≤ length d.nodes)
-LineSound d (Assign name node) = node ≤ length d.nodes
-LineSound d (MapRead map name) = map ≤ length d.maps
-LineSound d (Use fields) =
+LineSound d (Some (Assign name node)) = node ≤ length d.nodes
+LineSound d (Some (MapRead map name)) = map ≤ length d.maps
+LineSound d (Some (Use fields)) =
     (fields.class ≤ length d.classes) × (fields.count ≤ length d.nodes) × (fields.carried ≤ length d.names) ×
     (T (is_base (class_at d fields.class)) → 0 < greatest d fields.class → fields.receiving ≡ 0)
-LineSound d (If node first second) = node ≤ length d.nodes
-LineSound d (While node lines rounds) = node ≤ length d.nodes
-LineSound d Unknown = Unit {0}
+LineSound d (Some (If node first second)) = node ≤ length d.nodes
+LineSound d (Some (While node lines rounds)) = node ≤ length d.nodes
+LineSound d None = Unit {0}
 
 -- 1 where a stretch of lines holds a line, else 0
 abbrev pub held_by : (first number n : ℕ) → ℕ
@@ -78,15 +78,15 @@ abbrev pub There : Description → ℕ → Type 0
 There d k = (0 < k) × (k ≤ length d.nodes)
 
 -- a line of a class of a rank: its compulsory nodes are there, and what it uses has a lower rank
-abbrev pub LineRanked : Description → (rank : ℕ) → Statement → Type 0
-LineRanked d rank (Read fields) =
+abbrev pub LineRanked : Description → (rank : ℕ) → Option Statement → Type 0
+LineRanked d rank (Some (Read fields)) =
     There d fields.width × (fields.count ≤ length d.nodes) × (fields.lowest ≤ length d.nodes) × (fields.highest ≤ length d.nodes)
-LineRanked d rank (Assign name node) = There d node
-LineRanked d rank (MapRead map name) = Unit {0}
-LineRanked d rank (Use fields) = (fields.count ≤ length d.nodes) × Below d rank fields.class
-LineRanked d rank (If node first second) = There d node
-LineRanked d rank (While node lines rounds) = There d node
-LineRanked d rank Unknown = Unit {0}
+LineRanked d rank (Some (Assign name node)) = There d node
+LineRanked d rank (Some (MapRead map name)) = Unit {0}
+LineRanked d rank (Some (Use fields)) = (fields.count ≤ length d.nodes) × Below d rank fields.class
+LineRanked d rank (Some (If node first second)) = There d node
+LineRanked d rank (Some (While node lines rounds)) = There d node
+LineRanked d rank None = Unit {0}
 
 -- what a class uses has a lower rank, and what a node uses is earlier
 pub record Ranked (d : Description) : Type 0 where

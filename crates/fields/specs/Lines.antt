@@ -1,12 +1,12 @@
 -- The fields of lines: each has one of its values, and names records that are there.
-use Rattle.std.specs.Prelude.{Bool, false, cond, not, ◌&&◌, ◌||◌, ℕ, eqb, leb}
+use Rattle.std.specs.Prelude.{Bool, false, cond, not, ◌&&◌, ◌||◌, ℕ, eqb, leb, Option, Some, None}
 use Rattle.records.specs.Statements.{statement}
 use Rattle.records.specs.declared.counts.Counts.{Counts}
 use Rattle.records.specs.declared.records.Line.{Line}
 use Rattle.records.specs.declared.statements.ReadLine.{ReadLine}
 use Rattle.records.specs.declared.statements.UseLine.{UseLine}
 use Rattle.records.specs.declared.statements.Statement.{Statement}
-use Rattle.records.specs.declared.statements.Statement.TheVariants.{Read, Assign, MapRead, Use, If, While, Unknown}
+use Rattle.records.specs.declared.statements.Statement.TheVariants.{Read, Assign, MapRead, Use, If, While}
 use Rattle.fields.specs.Values.{names_one, names_one_or_none, is_alignment}
 
 -- the nodes of a read: only the width is compulsory
@@ -42,24 +42,24 @@ abbrev pub while_fine : Counts → (node rounds : ℕ) → Bool
 while_fine counts node rounds = names_one node counts.nodes && not (eqb rounds 0)
 
 -- the fields that a line's kind has
-abbrev pub statement_fine : Counts → Statement → Bool
-statement_fine counts (Read fields) = read_nodes_fine counts fields && read_rest_fine counts fields
-statement_fine counts (Assign name node) = assign_fine counts name node
-statement_fine counts (MapRead map name) = map_read_fine counts map name
-statement_fine counts (Use fields) = use_fine counts fields && limits_fine fields && carry_fine counts fields
-statement_fine counts (If node first second) = names_one node counts.nodes
-statement_fine counts (While node lines rounds) = while_fine counts node rounds
-statement_fine counts Unknown = false
+abbrev pub statement_fine : Counts → Option Statement → Bool
+statement_fine counts (Some (Read fields)) = read_nodes_fine counts fields && read_rest_fine counts fields
+statement_fine counts (Some (Assign name node)) = assign_fine counts name node
+statement_fine counts (Some (MapRead map name)) = map_read_fine counts map name
+statement_fine counts (Some (Use fields)) = use_fine counts fields && limits_fine fields && carry_fine counts fields
+statement_fine counts (Some (If node first second)) = names_one node counts.nodes
+statement_fine counts (Some (While node lines rounds)) = while_fine counts node rounds
+statement_fine counts None = false
 
 -- how many of the seven fields they are
-abbrev pub used_fields : Statement → ℕ
-used_fields (Read fields) = 7
-used_fields (Assign name node) = 2
-used_fields (MapRead map name) = 2
-used_fields (Use fields) = 6
-used_fields (If node first second) = 3
-used_fields (While node lines rounds) = 3
-used_fields Unknown = 0
+abbrev pub used_fields : Option Statement → ℕ
+used_fields (Some (Read fields)) = 7
+used_fields (Some (Assign name node)) = 2
+used_fields (Some (MapRead map name)) = 2
+used_fields (Some (Use fields)) = 6
+used_fields (Some (If node first second)) = 3
+used_fields (Some (While node lines rounds)) = 3
+used_fields None = 0
 
 -- the fields after the first `used` are 0
 abbrev pub rest_unused : Line → (used : ℕ) → Bool

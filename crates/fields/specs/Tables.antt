@@ -1,4 +1,5 @@
--- The fields of classes, names, extensions and maps, and the top class: each has one of its values, and names records that are there.
+-- The fields of classes, names, extensions and maps, and the top class: each has one of its values, and names records
+-- that are there.
 use Rattle.std.specs.Prelude.{Bool, cond, not, ◌&&◌, ℕ, eqb, leb}
 use Rattle.records.specs.Classes.{is_base, is_member}
 use Rattle.records.specs.declared.counts.Counts.{Counts}

@@ -71,32 +71,33 @@ fn while_fine(counts: Counts, node: u16, rounds: u16) -> bool
 }
 
 // Whether the fields that a line's kind has are fine.
-fn statement_fine(counts: Counts, s: Statement) -> bool
+fn statement_fine(counts: Counts, s: Option<Statement>) -> bool
     ensures { result ≡ statement_fine counts s }
 {
     match s {
-        Statement::Read(line) => read_nodes_fine(counts, line) && read_rest_fine(counts, line),
-        Statement::Assign { name, node } => assign_fine(counts, name, node),
-        Statement::MapRead { map, name } => map_read_fine(counts, map, name),
-        Statement::Use(line) => {
+        Some(Statement::Read(line)) => read_nodes_fine(counts, line)
+            && read_rest_fine(counts, line),
+        Some(Statement::Assign { name, node }) => assign_fine(counts, name, node),
+        Some(Statement::MapRead { map, name }) => map_read_fine(counts, map, name),
+        Some(Statement::Use(line)) => {
             use_fine(counts, line) && limits_fine(line) && carry_fine(counts, line)
         }
-        Statement::If { node, .. } => names_one(node, counts.nodes),
-        Statement::While { node, rounds, .. } => while_fine(counts, node, rounds),
-        Statement::Unknown => false,
+        Some(Statement::If { node, .. }) => names_one(node, counts.nodes),
+        Some(Statement::While { node, rounds, .. }) => while_fine(counts, node, rounds),
+        None => false,
     }
 }
 
 // How many of the seven fields a line's kind has.
-fn used_fields(s: Statement) -> u16
+fn used_fields(s: Option<Statement>) -> u16
     ensures { result ≡ used_fields s }
 {
     match s {
-        Statement::Read(_) => 7,
-        Statement::Assign { .. } | Statement::MapRead { .. } => 2,
-        Statement::Use(_) => 6,
-        Statement::If { .. } | Statement::While { .. } => 3,
-        Statement::Unknown => 0,
+        Some(Statement::Read(_)) => 7,
+        Some(Statement::Assign { .. } | Statement::MapRead { .. }) => 2,
+        Some(Statement::Use(_)) => 6,
+        Some(Statement::If { .. } | Statement::While { .. }) => 3,
+        None => 0,
     }
 }
 
@@ -115,6 +116,6 @@ fn rest_unused(l: Line, used: u16) -> bool
 pub fn line_fine(counts: Counts, l: Line) -> bool
     ensures { result ≡ line_fine counts l }
 {
-    let statement = Statement::from(l);
+    let statement = Statement::try_from(l).ok();
     statement_fine(counts, statement) && rest_unused(l, used_fields(statement))
 }

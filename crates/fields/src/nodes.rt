@@ -5,8 +5,8 @@ use crate::values::names_one;
 use records::counts::Counts;
 use records::records::Node;
 
-// The kinds of node: what is no constant, name or size is an operator. They are numbers and no enum, since the rules here hold for
-// numbers past the last operator too.
+// The kinds of node: what is no constant, name or size is an operator. They are numbers and no enum, since the rules
+// here hold for numbers past the last operator too.
 const CONSTANT: u16 = 1;
 
 const NAME: u16 = 2;

@@ -4,6 +4,7 @@ ghost use Rattle.fields.specs.Tables.{base_fine, abstract_fine, class_fine, name
 use crate::values::{is_stretch, names_one, names_one_or_none, one_to_sixteen};
 use records::counts::Counts;
 use records::records::{Class, Extension, Map, Name};
+use records::stretches::Stretch;
 
 // Whether a class has a base only if it is a member.
 fn base_fine(counts: Counts, c: Class) -> bool
@@ -36,7 +37,7 @@ pub fn class_fine(counts: Counts, c: Class) -> bool
         && abstract_fine(c)
         && c.width <= 16
         && one_to_sixteen(c.rank)
-        && is_stretch(c.first, c.number, counts.lines)
+        && is_stretch(Stretch::from(c), counts.lines)
 }
 
 // Whether a name's owner is there.
@@ -52,14 +53,14 @@ pub fn extension_fine(counts: Counts, e: Extension) -> bool
 {
     names_one(e.class, counts.classes)
         && e.number != 0
-        && is_stretch(e.first, e.number, counts.lines)
+        && is_stretch(Stretch::from(e), counts.lines)
 }
 
 // Whether the fields of a map are fine.
 pub fn map_fine(counts: Counts, m: Map) -> bool
     ensures { result ≡ map_fine counts m }
 {
-    one_to_sixteen(m.width) && is_stretch(m.first, m.number, counts.rows)
+    one_to_sixteen(m.width) && is_stretch(Stretch::from(m), counts.rows)
 }
 
 // Whether the top class is there.

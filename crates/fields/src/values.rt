@@ -1,6 +1,8 @@
 ghost use Rattle.std.specs.Prelude.{◌≡◌};
 ghost use Rattle.fields.specs.Values.{names_one, names_one_or_none, is_stretch, one_to_sixteen, is_alignment};
 
+use records::stretches::Stretch;
+
 // Whether v is the number of one of `count` records.
 pub(crate) fn names_one(v: u16, count: u16) -> bool
     ensures { result ≡ names_one v count }
@@ -15,14 +17,14 @@ pub(crate) fn names_one_or_none(v: u16, count: u16) -> bool
     v <= count
 }
 
-// Whether a stretch is no record from 0 on, or `number` of `count` records from `first` on.
-pub(crate) fn is_stretch(first: u16, number: u16, count: u16) -> bool
-    ensures { result ≡ is_stretch first number count }
+// Whether a stretch has no record, from 0 on, or lies within a table of `count` records.
+pub(crate) fn is_stretch(stretch: Stretch, count: u16) -> bool
+    ensures { result ≡ is_stretch stretch.first stretch.number count }
 {
-    if number == 0 {
-        first == 0
+    if stretch.number == 0 {
+        stretch.first == 0
     } else {
-        first != 0 && first as usize + number as usize - 1 <= count as usize
+        stretch.first != 0 && stretch.first as usize + stretch.number as usize - 1 <= count as usize
     }
 }
 

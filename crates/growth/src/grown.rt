@@ -8,7 +8,7 @@ ghost use Rattle.rules.specs.Growth.{member_grown, line_grown, unchanged, new_me
 use crate::same::{Fields, stands};
 use checked::checked::Checked;
 use records::records::{Class, Line};
-use records::statements::Statement;
+use records::statements::{Statement, written};
 use table::loaded::Loaded;
 use table::record::record_at;
 
@@ -31,7 +31,7 @@ fn member_grown(classes: &[Class], member: Class) -> bool
 fn line_grown(names: usize, line: Line) -> bool
     ensures { result ≡ line_grown names line }
 {
-    let name = Statement::from(line).written() as usize;
+    let name = written(Statement::try_from(line).ok()) as usize;
     name == 0 || name > names
 }
 
@@ -90,8 +90,9 @@ fn keeps_rules(older: &Loaded, newer: &Loaded) -> bool
     unchanged(older, newer) && new_members_fit(older, newer) && new_lines_fit(older, newer)
 }
 
-// Whether the newer description has grown from the older one; where it has, it reads on: whatever the bits, unless the newer's
-// fault lies inside what the older lacks, both end alike and what is left of the newer's items are the older's.
+// Whether the newer description has grown from the older one; where it has, it reads on: whatever the bits, unless
+// the newer's fault lies inside what the older lacks, both end alike and what is left of the newer's items are the
+// older's.
 pub fn grown(older: &Checked, newer: &Checked) -> bool
     ensures answer { result ≡ grown (description older.now.loaded) (description newer.now.loaded) }
     ensures law { result ≡ true → ReadsOn (description older.now.loaded) (description newer.now.loaded) }

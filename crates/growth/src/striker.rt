@@ -8,8 +8,8 @@ use rules::faults::ReadingFault;
 use rules::items::{Item, Kind};
 use table::loaded::Loaded;
 
-// How deep the items taken so far lead inside what is struck; 0 is outside. The older description is no field, but lent to each call:
-// a striker is then a plain value, with no lifetime for those who hold one.
+// How deep the items taken so far lead inside what is struck; 0 is outside. The older description is no field, but
+// lent to each call: a striker is then a plain value, with no lifetime for those who hold one.
 #[derive(Clone, Copy)]
 pub struct Striker {
     pub depth: u32,
@@ -87,13 +87,6 @@ impl Striker {
         }
     }
 
-    // The depth after an item.
-    fn deeper(self, older: &Loaded, item: Item) -> u32
-        ensures { self.depth < 4294967295 → result ≡ deeper (description older.now) self.depth item }
-    {
-        next_depth(item.kind, is_new(older, item.line, item.class), self.depth)
-    }
-
     // Whether nothing is left of an item.
     fn strikes(self, older: &Loaded, item: Item) -> bool
         ensures { result ≡ (nat_lt 0 (own_depth item.kind self.depth) || new_line (description older.now) item.line) }
@@ -107,7 +100,7 @@ impl Striker {
         ensures depth { self.old.depth < 4294967295 → self.new.depth ≡ deeper (description older.now) self.old.depth item }
     {
         let struck = self.strikes(older, item);
-        self.depth = self.deeper(older, item);
+        self.depth = next_depth(item.kind, is_new(older, item.line, item.class), self.depth);
         if struck {
             None
         } else {

@@ -21,7 +21,8 @@ use Rattle.objects.specs.declared.frame.Frame.TheVariants.{Lines, Rounds, Elemen
 use Rattle.objects.specs.declared.moves.Move.{Move}
 use Rattle.objects.specs.declared.moves.Move.TheVariants.{Quiet, Give, Begin, Leave}
 use Rattle.objects.specs.Ahead.{Inner, onto, with_names, state, frame_run, content_run, inner_run, code_run, height, wants, Fit, Room, Readable}
-use Rattle.objects.specs.Moves.{Moved, following, while_code}
+use Rattle.objects.specs.Moves.{Moved}
+use Rattle.objects.proofs.Blocks.{following, while_code}
 
 -- the same step from what lies ahead in other words
 pub moved_from : (d : Description) (bits : List Bool) (o : Object) {from to : Objects → Run State} (p : ℕ) (r : Result Move ReadingFault) (c : Inner)

@@ -1,5 +1,6 @@
 pub mod Stacks
 pub mod Codes
+pub mod Blocks
 pub mod Names
 pub mod LineRuns
 pub mod FrameRuns

@@ -16,7 +16,7 @@ use Rattle.rules.specs.Reading.{Object, Objects, valued, counted, elements, obje
 use Rattle.objects.specs.declared.frame.Frame.{Frame}
 use Rattle.objects.specs.declared.frame.Frame.TheVariants.{Lines, Elements, Counted, Uncounted}
 use Rattle.objects.specs.Ahead.{Inner, onto, with_names, state, frame_run, content_run, inner_run, code_run, height, wants, Fit, Room}
-use Rattle.objects.specs.Moves.{following, if_code}
+use Rattle.objects.proofs.Blocks.{following, if_code}
 
 -- the lines after a line, as a frame
 pub lines_fit : (d : Description) (line after : ℕ) (fs : List Frame) → Room d (following d line after) fs → Fit d (Lines (line + 1) after ∷ fs)

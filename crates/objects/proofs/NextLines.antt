@@ -1,5 +1,5 @@
 -- The next of some lines, and what lies ahead.
-use Rattle.std.proofs.Common.{◌≡◌, ℕ, suc, ◌+◌, ◌≤◌, Bool, List, ◌∷◌, length, ap, subst}
+use Rattle.std.proofs.Common.{◌≡◌, ℕ, suc, ◌+◌, ◌≤◌, Bool, List, ◌∷◌, length, ap, subst, Option, Some}
 use Rattle.records.specs.Statements.{written}
 use Rattle.records.specs.declared.statements.Statement.{Statement}
 use Rattle.table.specs.Description.{Description, statement_at}
@@ -20,6 +20,6 @@ module _ (d : Description) (at count : ℕ) (k : Code) (e : code d.lines at coun
   unfolding Fit wants
   lines_room fs f = record { high = subst (λ (x : Code). suc (length fs) + height x ≤ 20) e f.0; fit = f.2 }
 
-pub next_named : (d : Description) (at count line after : ℕ) (s : Statement) → IsNext d.lines at count line after s → Readable d → written s ≤ 128
+pub next_named : (d : Description) (at count line after : ℕ) (s : Statement) → IsNext d.lines at count line after s → Readable d → written (Some s) ≤ 128
 unfolding statement_at
-next_named d at count line after s n r = subst (λ (x : Statement). written x ≤ 128) n.is (r.names line)
+next_named d at count line after s n r = subst (λ (x : Option Statement). written x ≤ 128) n.is (r.names line)

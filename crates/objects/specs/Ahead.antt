@@ -92,8 +92,8 @@ pub record Room (d : Description) (k : Code) (fs : List Frame) : Type 0 where
   pub high : suc (length fs) + height k ≤ 20
   pub fit : Fit d fs
 
--- what a reading needs of a description: blocks are nested no deeper than there is room for, a written name is one of 128,
--- ids and indices of maps have at most 16 bits
+-- what a reading needs of a description: blocks are nested no deeper than there is room for, a written name is one of
+-- 128, ids and indices of maps have at most 16 bits
 pub record Readable (d : Description) : Type 0 where
   pub classes : (n : ℕ) → height (code d.lines (class_at d n).first (class_at d n).number) ≤ 17
   pub extensions : (n : ℕ) → height (code d.lines (extension_at d n).first (extension_at d n).number) ≤ 17

@@ -3,5 +3,6 @@ pub mod Frames
 pub mod Upcoming
 pub mod Ahead
 pub mod Tries
+pub mod Scenes
 pub mod Moves
 pub mod Starts

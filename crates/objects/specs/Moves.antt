@@ -1,5 +1,8 @@
 -- What one step inside an open object does.
-use Rattle.std.specs.Prelude.{◌≡◌, ℕ, suc, ◌+◌, ◌-◌, ◌≤◌, min, Bool, List, Ok, Err, Result}
+use Rattle.std.specs.Prelude.{◌≡◌, ℕ, ◌≤◌, Bool, List, ◌∷◌, Ok, Err, Result, Some}
+use Rattle.bits.specs.declared.source.Source.{Ghosts}
+use Rattle.records.specs.declared.statements.Statement.{Statement}
+use Rattle.records.specs.Statements.{written}
 use Rattle.table.specs.Description.{Description}
 use Rattle.rules.specs.declared.faults.ReadingFault.{ReadingFault}
 use Rattle.rules.specs.declared.items.Item.{Item}
@@ -8,10 +11,14 @@ use Rattle.rules.specs.Trace.{Run, out, pass, stop, done, bind}
 use Rattle.rules.specs.Reading.{State, Object, Objects, after_object}
 use Rattle.objects.specs.declared.moves.Move.{Move}
 use Rattle.objects.specs.declared.moves.Move.TheVariants.{Quiet, Give, Begin, Leave}
-use Rattle.rules.specs.Code.{Code, branch, while, code}
+use Rattle.rules.specs.Code.{Code, coded, code}
 use Rattle.objects.specs.declared.frame.Frame.{Frame}
 use Rattle.objects.specs.declared.inside.Inside.{Inside}
-use Rattle.objects.specs.Ahead.{Inner, inner_of, onto, state, content_run, inner_run, code_run, Fit}
+use Rattle.objects.specs.declared.scene.Scene.{Scene}
+use Rattle.objects.specs.declared.upcoming.BlockLine.{BlockLine}
+use Rattle.objects.specs.Frames.{frames}
+use Rattle.objects.specs.Ahead.{Inner, inner_of, object_of, onto, state, content_run, inner_run, code_run, Fit, Room}
+use Rattle.objects.specs.Scenes.{described, source_bits}
 
 module _ (d : Description) (bits : List Bool) (o : Object) where
   -- nothing is handed out
@@ -50,30 +57,43 @@ module _ (d : Description) (bits : List Bool) (o : Object) where
   Moved from p (Ok Leave) c = Leaves from p c
   Moved from p (Err f) c = Refuses from f c
 
--- a step of an object that has code before what it has to do, at a place
-abbrev pub CodeMoved : Description → List Bool → Object → Code → Inside → (p : ℕ) → Result Move ReadingFault → Inside → Type 0
-CodeMoved d bits o k i p r j = Moved d bits o (code_run d bits o k (inner_of i) p) p r (inner_of j)
+-- a line in its block, with its statement
+module _ (d : Description) (st : Statement) (at : BlockLine) where
+  -- its code, and that of the lines after it
+  abbrev pub line_code : Code
+  line_code = coded (Some st) at.line at.after (code d.lines)
 
--- a step of an object that has a frame before them
-abbrev pub FrameMoved : Description → List Bool → Object → Frame → Inside → (p : ℕ) → Result Move ReadingFault → Inside → Type 0
-FrameMoved d bits o f i p r j = Moved d bits o (inner_run d bits o (onto f (inner_of i)) p) p r (inner_of j)
+  -- it has room above frames, and the name that it writes is one of 128
+  pub record LineRoom (fs : List Frame) : Type 0 where
+    pub room : Room d line_code fs
+    pub named : written (Some st) ≤ 128
 
--- a step of an object
-abbrev pub InsideMoved : Description → List Bool → Object → Inside → (p : ℕ) → Result Move ReadingFault → Inside → Type 0
-InsideMoved d bits o i p r j = Moved d bits o (inner_run d bits o (inner_of i) p) p r (inner_of j)
+module _ {S : Type 0} {g : Ghosts S} (s : Scene S g) where
+  -- a step in a scene, from what lies ahead
+  abbrev pub StepFrom : (from : Objects → Run State) → Result Move ReadingFault → Inside → Type 0
+  StepFrom from r j = Moved (described s) (source_bits s) (object_of s.about) from s.place r (inner_of j)
 
--- the code of the lines after a line in its block
-abbrev pub following : Description → (line after : ℕ) → Code
-following d line after = code d.lines (suc line) after
+  -- a line before what an object has to do fits
+  abbrev pub LineFits : Statement → BlockLine → Inside → Type 0
+  LineFits st at i = LineRoom (described s) st at (frames i.frames)
 
--- the code of an if line, and of a while line: blocks end where what holds them ends
-abbrev pub if_code : Description → (line after node first second : ℕ) → Code
-if_code d line after node first second =
-    let m = min first after in
-    let n = min second (after - m) in
-    branch line node (following d line m) (code d.lines (suc line + m) n) (code d.lines (suc line + m + n) (after - m - n))
+  -- a step of an object that has a line before what it has to do
+  abbrev pub LineMoved : Statement → BlockLine → Inside → Result Move ReadingFault → Inside → Type 0
+  LineMoved st at i r j =
+      StepFrom (code_run (described s) (source_bits s) (object_of s.about) (line_code (described s) st at) (inner_of i) s.place) r j
 
-abbrev pub while_code : Description → (line after node lines rounds : ℕ) → Code
-while_code d line after node lines rounds =
-    let m = min lines after in
-    while line node rounds (following d line m) (code d.lines (suc line + m) (after - m))
+  -- a frame before what an object has to do fits
+  abbrev pub FrameFits : Frame → Inside → Type 0
+  FrameFits f i = Fit (described s) (f ∷ frames i.frames)
+
+  -- a step of an object that has a frame before what it has to do
+  abbrev pub FrameMoved : Frame → Inside → Result Move ReadingFault → Inside → Type 0
+  FrameMoved f i r j = StepFrom (inner_run (described s) (source_bits s) (object_of s.about) (onto f (inner_of i)) s.place) r j
+
+  -- what an object has to do fits
+  abbrev pub InsideFits : Inside → Type 0
+  InsideFits i = Fit (described s) (frames i.frames)
+
+  -- a step of an object as it stands
+  abbrev pub InsideMoved : Inside → Result Move ReadingFault → Inside → Type 0
+  InsideMoved i r j = StepFrom (inner_run (described s) (source_bits s) (object_of s.about) (inner_of i) s.place) r j

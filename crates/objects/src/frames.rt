@@ -6,8 +6,8 @@ use crate::frame::Frame;
 // As many things as an open object may have to do at once.
 pub const MOST: usize = 20;
 
-// What an open object has to do, in a fixed room: the last one first. `ArrayVec` was tried: an open object is then no plain value, and the
-// proofs of `Walk::step` and `Walk::leave` over an array of such did not close.
+// What an open object has to do, in a fixed room: the last one first. `ArrayVec` was tried: an open object is then no
+// plain value, and the proofs of `Walk::step` and `Walk::leave` over an array of such did not close.
 #[derive(Clone, Copy)]
 pub struct Frames {
     pub(crate) room: [Frame; 20],

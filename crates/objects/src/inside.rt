@@ -10,14 +10,6 @@ pub struct About {
     pub size: u32,
     // the window inside it
     pub window: Window,
-    // the greatest size; above 0 the object is expandable
-    pub greatest: u16,
-    // the line that uses it, and which of the line's objects it is
-    pub line: u16,
-    pub index: u16,
-    // its name whose value goes to the name `receiving` of the object around it
-    pub carried: u16,
-    pub receiving: u16,
 }
 
 // What changes in an open object: what it still has to do, the next extension to look at, and the values of its names.

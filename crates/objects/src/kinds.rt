@@ -1,12 +1,5 @@
 // One step for a line whose kind there is.
-ghost use Rattle.std.specs.Prelude.{◌≤◌};
-ghost use Rattle.records.specs.Statements.{written};
-ghost use Rattle.table.specs.Description.{description};
-ghost use Rattle.rules.specs.Code.{coded, code};
-ghost use Rattle.objects.specs.Frames.{frames};
-ghost use Rattle.objects.specs.Upcoming.{IsKnown};
-ghost use Rattle.objects.specs.Ahead.{Room, object_of};
-ghost use Rattle.objects.specs.Moves.{CodeMoved};
+ghost use Rattle.objects.specs.Moves.{LineFits, LineMoved};
 
 use crate::inside::Inside;
 use crate::moves::Move;
@@ -23,29 +16,25 @@ impl Inside {
         scene: &Scene<S>,
         next: NextLine,
     ) -> Result<Move, ReadingFault>
-        requires room { Room (description scene.now.tables.now) (coded next.statement next.line next.after (code (description scene.now.tables.now).lines)) (frames self.old.frames) }
-        requires known { IsKnown next.statement }
-        requires named { written next.statement ≤ 128 }
-        ensures { CodeMoved (description scene.now.tables.now) (S.bits scene.now.source.now) (object_of scene.now.about) (coded next.statement next.line next.after (code (description scene.now.tables.now).lines)) self.old scene.now.place result self.new }
+        requires { LineFits scene.now next.statement next.at self.old }
+        ensures { LineMoved scene.now next.statement next.at self.old result self.new }
     {
-        let line = next.line;
-        let after = next.after;
+        let at = next.at;
         match next.statement {
-            Statement::Read(fields) => self.read(scene, line, after, fields),
-            Statement::Assign { name, node } => self.assign(scene, line, after, name, node),
-            Statement::MapRead { map, name } => self.map_read(scene, line, after, map, name),
-            Statement::Use(fields) => self.use_line(scene, line, after, fields),
+            Statement::Read(fields) => self.read(scene, at, fields),
+            Statement::Assign { name, node } => self.assign(scene, at, name, node),
+            Statement::MapRead { map, name } => self.map_read(scene, at, map, name),
+            Statement::Use(fields) => self.use_line(scene, at, fields),
             Statement::If {
                 node,
                 first,
                 second,
-            } => self.branch(scene, line, after, node, first, second),
+            } => self.branch(scene, at, node, first, second),
             Statement::While {
                 node,
                 lines,
                 rounds,
-            } => self.begin_rounds(scene, line, after, node, lines, rounds),
-            Statement::Unknown => unreachable!(),
+            } => self.begin_rounds(scene, at, node, lines, rounds),
         }
     }
 }

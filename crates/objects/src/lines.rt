@@ -1,19 +1,16 @@
 // One step for each kind of line.
-ghost use Rattle.std.specs.Prelude.{◌≡◌, ℕ, ◌+◌, ◌<◌, ◌≤◌};
-ghost use Rattle.table.specs.Description.{description, map_at};
-ghost use Rattle.rules.specs.Code.{assign, read, map_read, use_of};
-ghost use Rattle.rules.specs.Lookups.{map_output};
+ghost use Rattle.std.specs.Prelude.{◌≡◌, ◌+◌};
+ghost use Rattle.records.specs.declared.statements.Statement.TheVariants.{Read, Assign, MapRead, Use, If, While};
 ghost use Rattle.rules.specs.Reading.{value_item};
-ghost use Rattle.rules.specs.Steps.{mapped};
 ghost use Rattle.objects.specs.declared.frame.Frame.TheVariants.{Lines};
-ghost use Rattle.objects.specs.Frames.{frames};
-ghost use Rattle.objects.specs.Ahead.{Room, object_of};
-ghost use Rattle.objects.specs.Moves.{CodeMoved, following, if_code, while_code};
+ghost use Rattle.objects.specs.Ahead.{object_of};
+ghost use Rattle.objects.specs.Moves.{LineFits, LineMoved};
 
 use crate::frame::Frame;
 use crate::inside::{About, Inside};
 use crate::moves::Move;
 use crate::scene::Scene;
+use crate::upcoming::BlockLine;
 use crate::values_of::write;
 use bits::source::Source;
 use records::statements::{ReadLine, UseLine};
@@ -22,13 +19,15 @@ use rules::items::{Item, Kind};
 use rules::steps::Got;
 use values::operators::is_zero;
 
-// The lines after a line in its block.
-pub(crate) fn lines_after(line: u16, after: u16) -> Frame
-    ensures { result ≡ Lines (line + 1) after }
-{
-    Frame::Lines {
-        at: line as u32 + 1,
-        count: after,
+impl BlockLine {
+    // The lines after it.
+    pub(crate) fn lines_after(self) -> Frame
+        ensures { result ≡ Lines (self.line + 1) self.after }
+    {
+        Frame::Lines {
+            at: self.line as u32 + 1,
+            count: self.after,
+        }
     }
 }
 
@@ -52,18 +51,16 @@ impl Inside {
     pub(crate) fn assign<S: Source>(
         &mut self,
         scene: &Scene<S>,
-        line: u16,
-        after: u16,
+        at: BlockLine,
         name: u16,
         node: u16,
     ) -> Result<Move, ReadingFault>
-        requires room { Room (description scene.now.tables.now) (assign line name node (following (description scene.now.tables.now) line after)) (frames self.old.frames) }
-        requires named { name ≤ 128 }
-        ensures { CodeMoved (description scene.now.tables.now) (S.bits scene.now.source.now) (object_of scene.now.about) (assign line name node (following (description scene.now.tables.now) line after)) self.old scene.now.place result self.new }
+        requires { LineFits scene.now (Assign name node) at self.old }
+        ensures { LineMoved scene.now (Assign name node) at self.old result self.new }
     {
-        let value = scene.tried(line, self.value(scene, node))?;
+        let value = scene.tried(at.line, self.value(scene, node))?;
         write(&mut self.names, name, value);
-        self.frames.push(lines_after(line, after));
+        self.frames.push(at.lines_after());
         Ok(Move::Quiet { place: scene.place })
     }
 
@@ -71,22 +68,20 @@ impl Inside {
     pub(crate) fn read<S: Source>(
         &mut self,
         scene: &Scene<S>,
-        line: u16,
-        after: u16,
+        at: BlockLine,
         fields: ReadLine,
     ) -> Result<Move, ReadingFault>
-        requires room { Room (description scene.now.tables.now) (read line fields (following (description scene.now.tables.now) line after)) (frames self.old.frames) }
-        requires named { fields.name ≤ 128 }
-        ensures { CodeMoved (description scene.now.tables.now) (S.bits scene.now.source.now) (object_of scene.now.about) (read line fields (following (description scene.now.tables.now) line after)) self.old scene.now.place result self.new }
+        requires { LineFits scene.now (Read fields) at self.old }
+        ensures { LineMoved scene.now (Read fields) at self.old result self.new }
     {
-        let total = scene.tried(line, self.count_or_one(scene, fields.count))?;
+        let total = scene.tried(at.line, self.count_or_one(scene, fields.count))?;
         let elements = Frame::Elements {
-            line,
+            line: at.line,
             fields,
             index: 0,
             total,
         };
-        self.frames.push_both(lines_after(line, after), elements);
+        self.frames.push_both(at.lines_after(), elements);
         Ok(Move::Quiet { place: scene.place })
     }
 
@@ -94,21 +89,18 @@ impl Inside {
     pub(crate) fn map_read<S: Source>(
         &mut self,
         scene: &Scene<S>,
-        line: u16,
-        after: u16,
+        at: BlockLine,
         map: u16,
         name: u16,
     ) -> Result<Move, ReadingFault>
-        requires room { Room (description scene.now.tables.now) (map_read line map name (following (description scene.now.tables.now) line after)) (frames self.old.frames) }
-        requires named { name ≤ 128 }
-        requires width { (map_at (description scene.now.tables.now) map).width ≤ 16 }
-        ensures { CodeMoved (description scene.now.tables.now) (S.bits scene.now.source.now) (object_of scene.now.about) (map_read line map name (following (description scene.now.tables.now) line after)) self.old scene.now.place result self.new }
+        requires { LineFits scene.now (MapRead map name) at self.old }
+        ensures { LineMoved scene.now (MapRead map name) at self.old result self.new }
     {
-        let got = scene.tried(line, scene.mapped(map))?;
+        let got = scene.tried(at.line, scene.mapped(map))?;
         write(&mut self.names, name, got.value);
-        self.frames.push(lines_after(line, after));
+        self.frames.push(at.lines_after());
         Ok(Move::Give {
-            item: value_item(scene.about, line, 0, got),
+            item: value_item(scene.about, at.line, 0, got),
             place: got.after,
         })
     }
@@ -117,29 +109,27 @@ impl Inside {
     pub(crate) fn use_line<S: Source>(
         &mut self,
         scene: &Scene<S>,
-        line: u16,
-        after: u16,
+        at: BlockLine,
         fields: UseLine,
     ) -> Result<Move, ReadingFault>
-        requires room { Room (description scene.now.tables.now) (use_of line fields (following (description scene.now.tables.now) line after)) (frames self.old.frames) }
-        requires named { fields.receiving ≤ 128 }
-        ensures { CodeMoved (description scene.now.tables.now) (S.bits scene.now.source.now) (object_of scene.now.about) (use_of line fields (following (description scene.now.tables.now) line after)) self.old scene.now.place result self.new }
+        requires { LineFits scene.now (Use fields) at self.old }
+        ensures { LineMoved scene.now (Use fields) at self.old result self.new }
     {
         let objects = if fields.count > 0 {
             Frame::Counted {
-                line,
+                line: at.line,
                 fields,
                 index: 0,
-                total: scene.tried(line, self.count(scene, fields.count))?,
+                total: scene.tried(at.line, self.count(scene, fields.count))?,
             }
         } else {
             Frame::Uncounted {
-                line,
+                line: at.line,
                 fields,
                 index: 0,
             }
         };
-        self.frames.push_both(lines_after(line, after), objects);
+        self.frames.push_both(at.lines_after(), objects);
         Ok(Move::Quiet { place: scene.place })
     }
 
@@ -147,23 +137,22 @@ impl Inside {
     pub(crate) fn branch<S: Source>(
         &mut self,
         scene: &Scene<S>,
-        line: u16,
-        after: u16,
+        at: BlockLine,
         node: u16,
         first: u16,
         second: u16,
     ) -> Result<Move, ReadingFault>
-        requires room { Room (description scene.now.tables.now) (if_code (description scene.now.tables.now) line after node first second) (frames self.old.frames) }
-        ensures { CodeMoved (description scene.now.tables.now) (S.bits scene.now.source.now) (object_of scene.now.about) (if_code (description scene.now.tables.now) line after node first second) self.old scene.now.place result self.new }
+        requires { LineFits scene.now (If node first second) at self.old }
+        ensures { LineMoved scene.now (If node first second) at self.old result self.new }
     {
-        let value = scene.tried(line, self.value(scene, node))?;
-        let m = first.min(after);
-        let n = second.min(after - m);
-        let at = line as u32 + 1;
-        let middle = at + m as u32;
+        let value = scene.tried(at.line, self.value(scene, node))?;
+        let m = first.min(at.after);
+        let n = second.min(at.after - m);
+        let start = at.line as u32 + 1;
+        let middle = start + m as u32;
         let rest = Frame::Lines {
             at: middle + n as u32,
-            count: after - m - n,
+            count: at.after - m - n,
         };
         let block = if is_zero(value) {
             Frame::Lines {
@@ -171,7 +160,10 @@ impl Inside {
                 count: n,
             }
         } else {
-            Frame::Lines { at, count: m }
+            Frame::Lines {
+                at: start,
+                count: m,
+            }
         };
         self.frames.push_both(rest, block);
         Ok(Move::Quiet { place: scene.place })
@@ -181,20 +173,19 @@ impl Inside {
     pub(crate) fn begin_rounds<S: Source>(
         &mut self,
         scene: &Scene<S>,
-        line: u16,
-        after: u16,
+        at: BlockLine,
         node: u16,
         lines: u16,
         rounds: u16,
     ) -> Result<Move, ReadingFault>
-        requires room { Room (description scene.now.tables.now) (while_code (description scene.now.tables.now) line after node lines rounds) (frames self.old.frames) }
-        ensures { CodeMoved (description scene.now.tables.now) (S.bits scene.now.source.now) (object_of scene.now.about) (while_code (description scene.now.tables.now) line after node lines rounds) self.old scene.now.place result self.new }
+        requires { LineFits scene.now (While node lines rounds) at self.old }
+        ensures { LineMoved scene.now (While node lines rounds) at self.old result self.new }
     {
-        let m = lines.min(after);
+        let m = lines.min(at.after);
         self.frames.push(Frame::Lines {
-            at: line as u32 + 1 + m as u32,
-            count: after - m,
+            at: at.line as u32 + 1 + m as u32,
+            count: at.after - m,
         });
-        self.round(scene, line, node, m, rounds)
+        self.round(scene, at.line, node, m, rounds)
     }
 }

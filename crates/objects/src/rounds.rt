@@ -1,18 +1,16 @@
 // One step for each kind of frame but lines.
-ghost use Rattle.std.specs.Prelude.{◌≡◌, ◌+◌, ◌<◌, ◌≤◌, Bool, List, [], ◌∷◌, length, IfOk, nat_le};
-ghost use Rattle.table.specs.Description.{Description, description};
-ghost use Rattle.rules.specs.Reading.{Object, valued};
+ghost use Rattle.std.specs.Prelude.{◌≡◌, ◌≤◌, IfOk, nat_le};
 ghost use Rattle.rules.specs.Steps.{element, next_multiple};
 ghost use Rattle.objects.specs.declared.frame.Frame.TheVariants.{Rounds, Elements, Counted, Uncounted};
-ghost use Rattle.objects.specs.Frames.{frames};
-ghost use Rattle.objects.specs.Ahead.{Fit, Readable, object_of, inner_of, state};
-ghost use Rattle.objects.specs.Moves.{FrameMoved, InsideMoved};
+ghost use Rattle.objects.specs.Scenes.{source_bits, node_value};
+ghost use Rattle.objects.specs.Moves.{FrameFits, FrameMoved};
 
 use crate::frame::Frame;
 use crate::inside::Inside;
-use crate::lines::{lines_after, value_item};
+use crate::lines::value_item;
 use crate::moves::Move;
 use crate::scene::Scene;
+use crate::upcoming::BlockLine;
 use crate::values_of::write;
 use bits::source::Source;
 use records::statements::{ReadLine, UseLine};
@@ -38,8 +36,8 @@ impl Inside {
         count: u16,
         left: u16,
     ) -> Result<Move, ReadingFault>
-        requires fit { Fit (description scene.now.tables.now) (Rounds line node count left ∷ frames self.old.frames) }
-        ensures { FrameMoved (description scene.now.tables.now) (S.bits scene.now.source.now) (object_of scene.now.about) (Rounds line node count left) self.old scene.now.place result self.new }
+        requires { FrameFits scene.now (Rounds line node count left) self.old }
+        ensures { FrameMoved scene.now (Rounds line node count left) self.old result self.new }
     {
         let value = scene.tried(line, self.value(scene, node))?;
         if is_zero(value) {
@@ -54,13 +52,14 @@ impl Inside {
             count,
             left: left - 1,
         };
-        self.frames.push_both(others, lines_after(line, count));
+        let at = BlockLine { line, after: count };
+        self.frames.push_both(others, at.lines_after());
         Ok(Move::Quiet { place: scene.place })
     }
 
     // One element of a read.
     fn element<S: Source>(&self, scene: &Scene<S>, fields: ReadLine) -> Result<Got, Failure>
-        ensures value { result ≡ element (S.bits scene.now.source.now) scene.now.about.window fields (valued (description scene.now.tables.now) (S.bits scene.now.source.now) (object_of scene.now.about) (state scene.now.place (inner_of self.now)) fields.width) (valued (description scene.now.tables.now) (S.bits scene.now.source.now) (object_of scene.now.about) (state scene.now.place (inner_of self.now)) fields.lowest) (valued (description scene.now.tables.now) (S.bits scene.now.source.now) (object_of scene.now.about) (state scene.now.place (inner_of self.now)) fields.highest) scene.now.place }
+        ensures value { result ≡ element (source_bits scene.now) scene.now.about.window fields (node_value scene.now self.now fields.width) (node_value scene.now self.now fields.lowest) (node_value scene.now self.now fields.highest) scene.now.place }
         ensures bound { IfOk result (λ g. g.after ≤ scene.now.about.window.end) }
     {
         scene
@@ -77,8 +76,8 @@ impl Inside {
         index: u16,
         total: u16,
     ) -> Result<Move, ReadingFault>
-        requires fit { Fit (description scene.now.tables.now) (Elements line fields index total ∷ frames self.old.frames) }
-        ensures { FrameMoved (description scene.now.tables.now) (S.bits scene.now.source.now) (object_of scene.now.about) (Elements line fields index total) self.old scene.now.place result self.new }
+        requires { FrameFits scene.now (Elements line fields index total) self.old }
+        ensures { FrameMoved scene.now (Elements line fields index total) self.old result self.new }
     {
         if index >= total {
             return Ok(Move::Quiet { place: scene.place });
@@ -106,8 +105,8 @@ impl Inside {
         index: u16,
         total: u16,
     ) -> Result<Move, ReadingFault>
-        requires fit { Fit (description scene.now.tables.now) (Counted line fields index total ∷ frames self.old.frames) }
-        ensures { FrameMoved (description scene.now.tables.now) (S.bits scene.now.source.now) (object_of scene.now.about) (Counted line fields index total) self.old scene.now.place result self.new }
+        requires { FrameFits scene.now (Counted line fields index total) self.old }
+        ensures { FrameMoved scene.now (Counted line fields index total) self.old result self.new }
     {
         if index >= total {
             return Ok(Move::Quiet { place: scene.place });
@@ -133,8 +132,8 @@ impl Inside {
         fields: UseLine,
         index: u16,
     ) -> Result<Move, ReadingFault>
-        requires fit { Fit (description scene.now.tables.now) (Uncounted line fields index ∷ frames self.old.frames) }
-        ensures { FrameMoved (description scene.now.tables.now) (S.bits scene.now.source.now) (object_of scene.now.about) (Uncounted line fields index) self.old scene.now.place result self.new }
+        requires { FrameFits scene.now (Uncounted line fields index) self.old }
+        ensures { FrameMoved scene.now (Uncounted line fields index) self.old result self.new }
     {
         if index < fields.most && !at_end(scene.about.window, scene.place) {
             self.frames.push(Frame::Uncounted {

@@ -1,8 +1,9 @@
 // What a scene gives its steps.
 ghost use Rattle.std.specs.Prelude.{◌≡◌, ◌≤◌, IfOk};
-ghost use Rattle.table.specs.Description.{description, map_at};
+ghost use Rattle.table.specs.Description.{map_at};
 ghost use Rattle.rules.specs.Lookups.{map_output};
 ghost use Rattle.rules.specs.Steps.{mapped, aligned};
+ghost use Rattle.objects.specs.Scenes.{described, source_bits};
 ghost use Rattle.objects.specs.Tries.{tried};
 
 use crate::scene::Scene;
@@ -27,16 +28,13 @@ impl<S: Source> Scene<'_, S> {
     pub(crate) fn tried<T>(&self, line: u16, step: Result<T, Failure>) -> Result<T, ReadingFault>
         ensures { result ≡ tried line self.now.place step }
     {
-        // by a match: `map_err` was tried, and its proof did not close
-        match step {
-            Ok(value) => Ok(value),
-            Err(failure) => Err(failure.at(line, self.place)),
-        }
+        let place = self.place;
+        step.map_err(|failure| failure.at(line, place))
     }
 
     // The index of a map, and its row's output.
     pub(crate) fn mapped(&self, map: u16) -> Result<Got, Failure>
-        ensures value { result ≡ mapped (S.bits self.now.source.now) self.now.about.window (map_at (description self.now.tables.now) map).width (map_output (description self.now.tables.now) map) self.now.place }
+        ensures value { result ≡ mapped (source_bits self.now) self.now.about.window (map_at (described self.now) map).width (map_output (described self.now) map) self.now.place }
         ensures bound { IfOk result (λ g. g.after ≤ self.now.about.window.end) }
     {
         let record = self.tables.map(map as usize);
@@ -45,7 +43,7 @@ impl<S: Source> Scene<'_, S> {
 
     // The place after alignment to a byte.
     pub(crate) fn aligned(&self) -> Result<u32, Failure>
-        ensures value { result ≡ aligned (S.bits self.now.source.now) self.now.about.window 8 self.now.place }
+        ensures value { result ≡ aligned (source_bits self.now) self.now.about.window 8 self.now.place }
         ensures bound { IfOk result (λ q. q ≤ self.now.about.window.end) }
     {
         self.view().aligned(8, self.place)

@@ -1,10 +1,8 @@
 // One step of an open object.
-ghost use Rattle.std.specs.Prelude.{◌≡◌, ◌≤◌, [], ◌∷◌, length};
-ghost use Rattle.table.specs.Description.{description};
+ghost use Rattle.std.specs.Prelude.{◌≡◌, []};
 ghost use Rattle.objects.specs.declared.frame.Frame.TheVariants.{Lines};
 ghost use Rattle.objects.specs.Frames.{frames};
-ghost use Rattle.objects.specs.Ahead.{Fit, Readable, object_of};
-ghost use Rattle.objects.specs.Moves.{FrameMoved, InsideMoved};
+ghost use Rattle.objects.specs.Moves.{FrameFits, FrameMoved, InsideFits, InsideMoved};
 
 use crate::frame::Frame;
 use crate::inside::Inside;
@@ -19,8 +17,8 @@ use table::record::record_at;
 impl Inside {
     // Looks at the next extension, or leaves the object where none is left.
     pub(crate) fn extend<S: Source>(&mut self, scene: &Scene<S>) -> Result<Move, ReadingFault>
-        requires none { frames self.old.frames ≡ [] }
-        ensures { InsideMoved (description scene.now.tables.now) (S.bits scene.now.source.now) (object_of scene.now.about) self.old scene.now.place result self.new }
+        requires { frames self.old.frames ≡ [] }
+        ensures { InsideMoved scene.now self.old result self.new }
     {
         let i = self.extension;
         let table: &[Extension] = &scene.tables.extensions;
@@ -53,8 +51,8 @@ impl Inside {
         at: u32,
         count: u16,
     ) -> Result<Move, ReadingFault>
-        requires fit { Fit (description scene.now.tables.now) (Lines at count ∷ frames self.old.frames) }
-        ensures { FrameMoved (description scene.now.tables.now) (S.bits scene.now.source.now) (object_of scene.now.about) (Lines at count) self.old scene.now.place result self.new }
+        requires { FrameFits scene.now (Lines at count) self.old }
+        ensures { FrameMoved scene.now (Lines at count) self.old result self.new }
     {
         match next_line(&scene.tables.lines, at, count) {
             None => Ok(Move::Quiet { place: scene.place }),
@@ -62,11 +60,11 @@ impl Inside {
         }
     }
 
-    // One step: what comes first of what the object has to do. One match over a closed set of frames, which the open objects keep: closures
-    // would be boxed, and nothing is allocated after opening.
+    // One step: what comes first of what the object has to do. One match over a closed set of frames, which the open
+    // objects keep: closures would be boxed, and nothing is allocated after opening.
     pub fn step<S: Source>(&mut self, scene: &Scene<S>) -> Result<Move, ReadingFault>
-        requires fit { Fit (description scene.now.tables.now) (frames self.old.frames) }
-        ensures { InsideMoved (description scene.now.tables.now) (S.bits scene.now.source.now) (object_of scene.now.about) self.old scene.now.place result self.new }
+        requires { InsideFits scene.now self.old }
+        ensures { InsideMoved scene.now self.old result self.new }
     {
         match self.frames.pop() {
             None => self.extend(scene),

@@ -5,16 +5,22 @@ use records::records::Line;
 use records::statements::Statement;
 use table::record::record_at;
 
-// The next line of some lines, after which `after` lines are left.
+// A line in its block: its number, and how many lines come after it.
 #[derive(Clone, Copy)]
-pub(crate) struct NextLine {
+pub(crate) struct BlockLine {
     pub(crate) line: u16,
     pub(crate) after: u16,
+}
+
+// The next line of some lines.
+#[derive(Clone, Copy)]
+pub(crate) struct NextLine {
+    pub(crate) at: BlockLine,
     pub(crate) statement: Statement,
 }
 
-// The first of `count` lines from `at` on whose kind there is, if there is one. A loop that steps by hand: it goes by the lines' numbers, of which
-// 0 is none, ends where the table does, and says how many lines are left.
+// The first of `count` lines from `at` on whose kind there is, if there is one. A loop that steps by hand: it goes by
+// the lines' numbers, of which 0 is none, ends where the table does, and says how many lines are left.
 pub(crate) fn next_line(lines: &[Line], at: u32, count: u16) -> Option<NextLine>
     requires { length lines.now ≤ 65534 }
     ensures { Comes lines.now at count result }
@@ -26,14 +32,14 @@ pub(crate) fn next_line(lines: &[Line], at: u32, count: u16) -> Option<NextLine>
             return None;
         }
         left -= 1;
-        match Statement::from(record_at(lines, line as usize)) {
-            Statement::Unknown => line += 1,
-            statement => {
-                return Some(NextLine {
+        match Statement::try_from(record_at(lines, line as usize)) {
+            Err(_) => line += 1,
+            Ok(statement) => {
+                let at = BlockLine {
                     line: line as u16,
                     after: left,
-                    statement,
-                });
+                };
+                return Some(NextLine { at, statement });
             }
         }
     }

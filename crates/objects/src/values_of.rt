@@ -1,10 +1,8 @@
-ghost use Rattle.std.specs.Prelude.{◌≡◌, ℕ, ◌≤◌, Bool, List};
-ghost use Rattle.table.specs.Description.{description};
-ghost use Rattle.rules.specs.Reading.{write, counted};
+ghost use Rattle.std.specs.Prelude.{◌≡◌, ◌≤◌};
+ghost use Rattle.rules.specs.Reading.{write};
 ghost use Rattle.rules.specs.Steps.{natural};
-ghost use Rattle.rules.specs.Values.{value};
 ghost use Rattle.values.specs.Names.{named_by};
-ghost use Rattle.objects.specs.Ahead.{inner_of, object_of, state};
+ghost use Rattle.objects.specs.Scenes.{described, node_value, node_count};
 
 use crate::inside::Inside;
 use crate::scene::Scene;
@@ -26,7 +24,7 @@ pub fn write(names: &mut [i64; 128], name: u16, value: i64)
 impl Inside {
     // What the object's values are worked out from.
     pub(crate) fn scope<'a, S: Source>(&'a self, scene: &'a Scene<S>) -> Scope<'a>
-        ensures nodes { result.nodes.now ≡ (description scene.now.tables.now).nodes }
+        ensures nodes { result.nodes.now ≡ (described scene.now).nodes }
         ensures names { result.names.now ≡ self.now.names }
         ensures size { result.size ≡ scene.now.about.size }
     {
@@ -39,14 +37,14 @@ impl Inside {
 
     // The value of a node in the object.
     pub(crate) fn value<S: Source>(&self, scene: &Scene<S>, node: u16) -> Result<i64, Failure>
-        ensures { result ≡ value (description scene.now.tables.now).nodes scene.now.about.size (named_by self.now.names) node }
+        ensures { result ≡ node_value scene.now self.now node }
     {
         self.scope(scene).value(node)
     }
 
     // A count from 0 to 65,535, as a node gives it.
     pub(crate) fn count<S: Source>(&self, scene: &Scene<S>, node: u16) -> Result<u16, Failure>
-        ensures { result ≡ natural 65535 (value (description scene.now.tables.now).nodes scene.now.about.size (named_by self.now.names) node) }
+        ensures { result ≡ natural 65535 (node_value scene.now self.now node) }
     {
         Ok(natural(65535, self.value(scene, node)?)? as u16)
     }
@@ -57,7 +55,7 @@ impl Inside {
         scene: &Scene<S>,
         node: u16,
     ) -> Result<u16, Failure>
-        ensures { result ≡ counted (description scene.now.tables.now) (S.bits scene.now.source.now) (object_of scene.now.about) (state scene.now.place (inner_of self.now)) node }
+        ensures { result ≡ node_count scene.now self.now node }
     {
         if node == 0 {
             return Ok(1);

@@ -7,7 +7,7 @@ use Rattle.std.proofs.lemmas.Bool.{false≢true}
 use Rattle.std.proofs.lemmas.Bool.Decides.{leb_tells}
 use Rattle.fields.specs.Nodes.{is_operator, takes_name}
 use Rattle.table.specs.Description.{Description, node_at, no_node}
-use Rattle.table.proofs.Scans.{entry_none, entry_zero}
+use Rattle.table.proofs.Entries.{entry_none, entry_past}
 use Rattle.owners.specs.Reach.{reaches_by, reaches_within, reaches}
 
 -- only where the test passes
@@ -43,10 +43,10 @@ module _ (d : Description) (x : ℕ) where
   no_node_reaches r e f = sym (reaches_step r ∙ rw (e, f))
 
   pub reaches_zero : 0 < x → false ≡ reaches d x 0
-  reaches_zero h = no_node_reaches 0 (sym (entry_zero d.nodes 0 no_node refl)) (ne_eqb 0 x (λ e. omega arith))
+  reaches_zero h = no_node_reaches 0 (entry_none d.nodes no_node) (ne_eqb 0 x (λ e. omega arith))
 
   pub reaches_past : (r : ℕ) → length d.nodes < r → x ≤ length d.nodes → false ≡ reaches d x r
-  reaches_past r h k = no_node_reaches r (sym (entry_none d.nodes r no_node h)) (ne_eqb r x (λ e. omega arith))
+  reaches_past r h k = no_node_reaches r (entry_past d.nodes r no_node h) (ne_eqb r x (λ e. omega arith))
 
 -- no mark at first
 pub unmarked : (n k : ℕ) → get_or (replicate n false) k false ≡ false
@@ -74,9 +74,9 @@ takes_no_name : (x : ℕ) (d : Description) → node_at d x ≡ no_node → take
 takes_no_name x d e t = let f : takes_name no_node ≡ true = rw e at t in false≢true f
 
 pub taker_there : (d : Description) (x : ℕ) → takes_name (node_at d x) ≡ true → (0 < x) × (x ≤ length d.nodes)
-taker_there d zero t = absurd (takes_no_name 0 d (sym (entry_zero d.nodes 0 no_node refl)) t)
+taker_there d zero t = absurd (takes_no_name 0 d (entry_none d.nodes no_node) t)
 taker_there d (suc k) t =
     elim (leb_tells (suc k) (length d.nodes)) [
       | inl h ↦ (omega arith, h.1)
-      | inr h ↦ absurd (takes_no_name (suc k) d (sym (entry_none d.nodes (suc k) no_node (omega (arith, h.1)))) t)
+      | inr h ↦ absurd (takes_no_name (suc k) d (entry_past d.nodes (suc k) no_node (omega (arith, h.1))) t)
     ]

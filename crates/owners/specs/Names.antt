@@ -1,8 +1,9 @@
--- A line, and the nodes that it reaches, name what the line's class or its base owns; a carried name is the used class's.
-use Rattle.std.specs.Prelude.{ℕ, Bool, false, not, ◌&&◌, ◌||◌, length, ◌==◌}
+-- A line, and the nodes that it reaches, name what the line's class or its base owns; a carried name is the used
+-- class's.
+use Rattle.std.specs.Prelude.{ℕ, Bool, false, not, ◌&&◌, ◌||◌, length, ◌==◌, Option, Some, None}
 use Rattle.records.specs.Statements.{written}
 use Rattle.records.specs.declared.statements.Statement.{Statement}
-use Rattle.records.specs.declared.statements.Statement.TheVariants.{Read, Assign, MapRead, Use, If, While, Unknown}
+use Rattle.records.specs.declared.statements.Statement.TheVariants.{Read, Assign, MapRead, Use, If, While}
 use Rattle.fields.specs.Nodes.{takes_name}
 use Rattle.table.specs.Description.{Description, class_at, name_at, node_at, statement_at}
 use Rattle.table.specs.First.{some_upto}
@@ -14,7 +15,7 @@ use Rattle.owners.specs.Reach.{reaches, line_has}
 abbrev pub owned_by : Description → (c n : ℕ) → Bool
 owned_by d c n = (name_at d n).owner == c || (name_at d n).owner == (class_at d c).base
 
-abbrev pub writes_wrong : Description → (c : ℕ) → Statement → Bool
+abbrev pub writes_wrong : Description → (c : ℕ) → Option Statement → Bool
 writes_wrong d c s = not (written s == 0) && not (owned_by d c (written s))
 
 -- a carried name that the used class does not own, or any from an expandable family
@@ -23,14 +24,14 @@ carry_wrong d class carried =
     not (carried == 0)
     && (not ((name_at d carried).owner == class) || in_family d class && expandable d class)
 
-abbrev pub carries_wrong : Description → Statement → Bool
-carries_wrong d (Read fields) = false
-carries_wrong d (Assign name node) = false
-carries_wrong d (MapRead map name) = false
-carries_wrong d (Use fields) = carry_wrong d fields.class fields.carried
-carries_wrong d (If node first second) = false
-carries_wrong d (While node lines rounds) = false
-carries_wrong d Unknown = false
+abbrev pub carries_wrong : Description → Option Statement → Bool
+carries_wrong d (Some (Read fields)) = false
+carries_wrong d (Some (Assign name node)) = false
+carries_wrong d (Some (MapRead map name)) = false
+carries_wrong d (Some (Use fields)) = carry_wrong d fields.class fields.carried
+carries_wrong d (Some (If node first second)) = false
+carries_wrong d (Some (While node lines rounds)) = false
+carries_wrong d None = false
 
 -- line n, of class c, has a node that passes in its fields, and may not take a name
 abbrev pub may_not_take : Description → (passes : ℕ → Bool) → (c name n : ℕ) → Bool

@@ -1,7 +1,7 @@
 -- The nodes that a line reaches: those in its fields, and those that they are worked out from.
-use Rattle.std.specs.Prelude.{ℕ, zero, suc, Bool, false, ◌&&◌, ◌||◌, ◌==◌, nat_lt}
+use Rattle.std.specs.Prelude.{ℕ, zero, suc, Bool, false, ◌&&◌, ◌||◌, ◌==◌, nat_lt, Option, Some, None}
 use Rattle.records.specs.declared.statements.Statement.{Statement}
-use Rattle.records.specs.declared.statements.Statement.TheVariants.{Read, Assign, MapRead, Use, If, While, Unknown}
+use Rattle.records.specs.declared.statements.Statement.TheVariants.{Read, Assign, MapRead, Use, If, While}
 use Rattle.fields.specs.Nodes.{is_operator}
 use Rattle.table.specs.Description.{Description, node_at}
 
@@ -22,12 +22,12 @@ unfoldable pub reaches : Description → (x r : ℕ) → Bool
 reaches d x r = reaches_within d x (suc r) r
 
 -- a line has a node that passes in one of its fields
-abbrev pub line_has : (passes : ℕ → Bool) → Statement → Bool
-line_has passes (Read fields) =
+abbrev pub line_has : (passes : ℕ → Bool) → Option Statement → Bool
+line_has passes (Some (Read fields)) =
     passes fields.width || passes fields.count || passes fields.lowest || passes fields.highest
-line_has passes (Assign name node) = passes node
-line_has passes (MapRead map name) = false
-line_has passes (Use fields) = passes fields.count
-line_has passes (If node first second) = passes node
-line_has passes (While node lines rounds) = passes node
-line_has passes Unknown = false
+line_has passes (Some (Assign name node)) = passes node
+line_has passes (Some (MapRead map name)) = false
+line_has passes (Some (Use fields)) = passes fields.count
+line_has passes (Some (If node first second)) = passes node
+line_has passes (Some (While node lines rounds)) = passes node
+line_has passes None = false

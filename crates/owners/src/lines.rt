@@ -6,11 +6,13 @@ use blocks::stretches::{in_class, in_extension};
 use passes::first::first;
 use std::array::from_fn;
 use table::loaded::Loaded;
+use table::record::numbered;
 
 // The most lines that there are.
 const MOST_LINES: usize = 512;
 
-// The class whose stretch, or whose extension's stretch, holds line n, 0 if none does. No Option: records say none by 0, and a look-up of 0 is defined.
+// The class whose stretch, or whose extension's stretch, holds line n, 0 if none does. No Option: records say none by
+// 0, and a look-up of 0 is defined.
 pub fn class_of_line(loaded: &Loaded, n: usize) -> usize
     ensures { result ≡ class_of_line (description loaded.now) n }
 {
@@ -20,7 +22,8 @@ pub fn class_of_line(loaded: &Loaded, n: usize) -> usize
     })
 }
 
-// The classes of a description's lines, each searched once. In a fixed array, as the check allocates nothing and so cannot fail.
+// The classes of a description's lines, each searched once. In a fixed array, as the check allocates nothing and so
+// cannot fail.
 #[derive(Drop)]
 pub(crate) struct LineClasses<'d> {
     pub(crate) loaded: &'d Loaded,
@@ -44,10 +47,8 @@ impl<'d> LineClasses<'d> {
     pub(crate) fn class_of(&self, n: usize) -> usize
         ensures { result ≡ class_of_line (description self.now.loaded.now) n }
     {
-        if n == 0 || n > MOST_LINES {
-            class_of_line(self.loaded, n)
-        } else {
-            self.classes[n - 1]
-        }
+        numbered(&self.classes, n)
+            .copied()
+            .unwrap_or_else(|| class_of_line(self.loaded, n))
     }
 }

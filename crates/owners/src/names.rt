@@ -5,7 +5,7 @@ ghost use Rattle.owners.specs.Names.{owned_by, writes_wrong, carry_wrong, carrie
 
 use crate::lines::class_of_line;
 use passes::families::{expandable, in_family};
-use records::statements::{Statement, UseLine};
+use records::statements::{Statement, UseLine, written};
 use table::loaded::Loaded;
 
 // Whether class c or its base owns name n.
@@ -17,10 +17,10 @@ pub(crate) fn owned_by(loaded: &Loaded, c: usize, n: usize) -> bool
 }
 
 // Whether a line of class c writes a name that is not its to take.
-fn writes_wrong(loaded: &Loaded, c: usize, s: Statement) -> bool
+fn writes_wrong(loaded: &Loaded, c: usize, s: Option<Statement>) -> bool
     ensures { result ≡ writes_wrong (description loaded.now) c s }
 {
-    let name = s.written();
+    let name = written(s);
     name != 0 && !owned_by(loaded, c, name as usize)
 }
 
@@ -35,11 +35,11 @@ fn carry_wrong(loaded: &Loaded, line: UseLine) -> bool
 }
 
 // Whether a line carries a name wrongly.
-fn carries_wrong(loaded: &Loaded, s: Statement) -> bool
+fn carries_wrong(loaded: &Loaded, s: Option<Statement>) -> bool
     ensures { result ≡ carries_wrong (description loaded.now) s }
 {
     match s {
-        Statement::Use(line) => carry_wrong(loaded, line),
+        Some(Statement::Use(line)) => carry_wrong(loaded, line),
         _ => false,
     }
 }
@@ -48,6 +48,6 @@ fn carries_wrong(loaded: &Loaded, s: Statement) -> bool
 pub fn line_owner(loaded: &Loaded, n: usize) -> bool
     ensures { result ≡ line_owner (description loaded.now) n }
 {
-    let line = loaded.statement(n);
-    writes_wrong(loaded, class_of_line(loaded, n), line) || carries_wrong(loaded, line)
+    let statement = loaded.statement(n);
+    writes_wrong(loaded, class_of_line(loaded, n), statement) || carries_wrong(loaded, statement)
 }

@@ -23,11 +23,11 @@ fn not_below(loaded: &Loaded, user: usize, used: usize, u: usize) -> bool
 }
 
 // Whether a line of class `user` uses what does not rank below it.
-fn uses_wrong(loaded: &Loaded, user: usize, s: Statement) -> bool
+fn uses_wrong(loaded: &Loaded, user: usize, s: Option<Statement>) -> bool
     ensures { result ≡ uses_wrong (description loaded.now) user s }
 {
     match s {
-        Statement::Use(line) => some(loaded.classes.len(), |u| {
+        Some(Statement::Use(line)) => some(loaded.classes.len(), |u| {
             not_below(loaded, user, line.class as usize, u)
         }),
         _ => false,

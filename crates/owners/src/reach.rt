@@ -40,8 +40,8 @@ fn marks_next(loaded: &Loaded, marks: &[bool], x: usize, r: usize) -> bool
         || is_operator(node) && (marked_before(marks, node.a, r) || marked_before(marks, node.b, r))
 }
 
-// Which nodes are, or are worked out from, node x: a loop, as each mark is told from those before it, over a fixed array, as the
-// check allocates nothing and so cannot fail.
+// Which nodes are, or are worked out from, node x: a loop, as each mark is told from those before it, over a fixed
+// array, as the check allocates nothing and so cannot fail.
 pub(crate) fn reaching(loaded: &Loaded, x: usize) -> [bool; NODES]
     requires { (0 < x) × (x ≤ length (description loaded.now).nodes) }
     ensures { (r : ℕ) → slice_index_or result r false ≡ reaches (description loaded.now) x r }
@@ -54,20 +54,22 @@ pub(crate) fn reaching(loaded: &Loaded, x: usize) -> [bool; NODES]
 }
 
 // Whether a line has a marked node in its fields.
-pub(crate) fn has_marked(marks: &[bool], s: Statement) -> bool
+pub(crate) fn has_marked(marks: &[bool], s: Option<Statement>) -> bool
     ensures { result ≡ line_has (λ r. get_or marks.now r false) s }
 {
     match s {
-        Statement::Read(line) => {
+        Some(Statement::Read(line)) => {
             marked(marks, line.width)
                 || marked(marks, line.count)
                 || marked(marks, line.lowest)
                 || marked(marks, line.highest)
         }
-        Statement::Assign { node, .. }
-        | Statement::If { node, .. }
-        | Statement::While { node, .. } => marked(marks, node),
-        Statement::Use(line) => marked(marks, line.count),
-        Statement::MapRead { .. } | Statement::Unknown => false,
+        Some(
+            Statement::Assign { node, .. }
+            | Statement::If { node, .. }
+            | Statement::While { node, .. },
+        ) => marked(marks, node),
+        Some(Statement::Use(line)) => marked(marks, line.count),
+        Some(Statement::MapRead { .. }) | None => false,
     }
 }

@@ -1,4 +1,2 @@
 pub mod Families
 pub mod Naming
-pub mod Stretches
-pub mod Tests

@@ -4,7 +4,8 @@ ghost use Rattle.passes.specs.Families.{family, in_family, expandable};
 
 use table::loaded::Loaded;
 
-// The number of the base of a class's family, 0 for a class in no family. No Option: records say none by 0, and a look-up of 0 is defined.
+// The number of the base of a class's family, 0 for a class in no family. No Option: records say none by 0, and a
+// look-up of 0 is defined.
 pub fn family(loaded: &Loaded, n: usize) -> usize
     ensures { result ≡ family (description loaded.now) n }
 {

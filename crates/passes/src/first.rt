@@ -1,19 +1,14 @@
 ghost use Rattle.std.specs.Prelude.{◌≡◌, ℕ, ◌≤◌, Bool};
 ghost use Rattle.table.specs.First.{first_upto, some_upto, count_upto};
-ghost use Rattle.passes.specs.Tests.{Answers};
+ghost use Rattle.table.specs.Tests.{Answers};
 
-// The first of the numbers 1 to `count` that passes the test.
-#[tactic(auto, using(table::proofs::Scans::first_none, table::proofs::Scans::first_found, table::proofs::Scans::first_passed))]
+// The first of the numbers 1 to `count` that passes the test. They are made from 0..count, since over 1..=count the
+// program that checks a description takes half as many instructions again.
 pub fn first<F: Fn(usize) -> bool>(count: usize, test: F) -> Option<usize>
     requires { F.IsAlwaysCallable test }
     ensures { (p : ℕ → Bool) → Answers F.post test p → result ≡ first_upto p count }
 {
-    for i in 0..count {
-        if test(i + 1) {
-            return Some(i + 1);
-        }
-    }
-    None
+    (0..count).map(|i| i + 1).find(|n| test(*n))
 }
 
 // Whether one of them passes.
@@ -25,17 +20,10 @@ pub fn some<F: Fn(usize) -> bool>(count: usize, test: F) -> bool
 }
 
 // How many of them pass.
-#[tactic(auto, using(table::proofs::Scans::count_none, table::proofs::Scans::count_passed, table::proofs::Scans::count_left))]
 pub fn count<F: Fn(usize) -> bool>(count: usize, test: F) -> usize
     requires { F.IsAlwaysCallable test }
     ensures value { (p : ℕ → Bool) → Answers F.post test p → result ≡ count_upto p count }
     ensures bound { result ≤ count }
 {
-    let mut found = 0;
-    for i in 0..count {
-        if test(i + 1) {
-            found += 1;
-        }
-    }
-    found
+    (0..count).map(|i| i + 1).filter(|n| test(*n)).count()
 }

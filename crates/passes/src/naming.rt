@@ -1,7 +1,7 @@
 ghost use Rattle.std.specs.Prelude.{◌≡◌, ℕ, Bool};
 ghost use Rattle.table.specs.First.{first_upto};
 ghost use Rattle.passes.specs.Naming.{named, of_top};
-ghost use Rattle.passes.specs.Tests.{Answers};
+ghost use Rattle.table.specs.Tests.{Answers};
 
 use crate::first::first;
 use records::faults::{Cause, Fault, Table};

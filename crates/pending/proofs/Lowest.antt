@@ -1,6 +1,7 @@
 -- The lowest index of a map that gives a value, row by row.
-use Rattle.std.proofs.Common.{◌≡◌, ℕ, zero, suc, ◌+◌, ◌^◌, ◌<◌, ◌≤◌, Bool, true, false, cond, not, ◌&&◌, T, eqb, ltb, ℤ, is_ok, Ok, Err, sym, refl, ap, ◌∙◌, subst, inl, inr, add-zero, arith}
-use Rattle.std.proofs.lemmas.Bool.{lt-ltb, ltb-true, eq-eqb, eqb-true, false≢true, and_parts, cases_lt, false_from_ne_true}
+use Rattle.std.proofs.Common.{◌≡◌, ℕ, zero, suc, ◌+◌, ◌^◌, ◌<◌, ◌≤◌, min, Bool, true, false, cond, if◌then◌else◌, ◌&&◌, T, eqb, [], Option, Some, None, ℤ, is_err, Ok, Err, sym, refl, ap, ◌∙◌, subst, inl, inr, add-zero, arith}
+use Rattle.std.specs.List.{range_with_len, filter_map, cons_option, fold}
+use Rattle.std.proofs.lemmas.Bool.{eq-eqb, eqb-true, false≢true, and_parts, cases_lt, false_from_ne_true}
 use Rattle.roundtrip.proofs.Again.{gives_ok, ok_gives}
 use Rattle.records.specs.declared.records.Row.{Row}
 use Rattle.table.specs.Description.{Description, row_at}
@@ -8,8 +9,9 @@ use Rattle.rules.specs.declared.faults.ReadingCause.TheVariants.{NoSuchIndex}
 use Rattle.rules.specs.Checks.{Check, fails, pick}
 use Rattle.rules.specs.Lookups.{output, find_row}
 use Rattle.rules.specs.Values.{same}
+use Rattle.pending.specs.Indices.{index_giving}
 use Rattle.roundtrip.specs.Own.{gives_value, first_such, lowest_index}
-use Rattle.rules.proofs.Booleans.{true_of}
+use Rattle.checked.proofs.Booleans.{true_of}
 use Rattle.roundtrip.proofs.Numbers.{same_eq, same_refl}
 
 -- the first number that passes a test, or the one after all of them
@@ -57,15 +59,15 @@ one_more d at (suc n) x =
     go true e = refl
     go false e = e
 
--- a row that gives the value at a lower index which no row before it has
-abbrev pub lowers : Row → ℤ → (lowest : ℕ) → Check ℤ → Bool
-lowers r v lowest before = same (output r) v && (ltb r.index lowest && not (is_ok before))
+-- whether a row gives the value, and no row before it has its index
+abbrev gives : Row → ℤ → (before : Check ℤ) → Bool
+gives r v before = same (output r) v && is_err before
 
 kept_ok : (a b : Check ℤ) (v : ℤ) → a ≡ Ok v → or_else a b ≡ Ok v
 kept_ok a b v e = ap (λ z. or_else z b) e
 
--- at a number below the lowest the further row gives the value only if it lowers
-no_lower : (r : Row) (v : ℤ) (lowest x : ℕ) (a : Check ℤ) → x < lowest → (a ≡ Ok v → ⊥) → (r.index ≡ x → lowers r v lowest a ≡ false) → or_else a (of_row r x) ≡ Ok v → ⊥
+-- at a number below the lowest the further row gives the value only if its index is that number
+no_lower : (r : Row) (v : ℤ) (lowest x : ℕ) (a : Check ℤ) → x < lowest → (a ≡ Ok v → ⊥) → (r.index ≡ x → gives r v a ≡ true → lowest ≤ x) → or_else a (of_row r x) ≡ Ok v → ⊥
 no_lower r v lowest x (Ok u) h none f e = none e
 no_lower r v lowest x (Err z) h none f e = go (eqb r.index x) refl e
   where
@@ -74,43 +76,71 @@ no_lower r v lowest x (Err z) h none f e = go (eqb r.index x) refl e
         let i : r.index ≡ x = eqb-true r.index x q in
         let o : output r ≡ v = cc in
         let s : same (output r) v ≡ true = ap (λ y. same y v) o ∙ true_of (same v v) (same_refl v) in
-        let l : ltb r.index lowest ≡ true = lt-ltb r.index lowest (omega arith) in
-        let t : (same (output r) v && (ltb r.index lowest && true)) ≡ true = rw (s, l) in
-        false≢true (sym (f i) ∙ t)
+        let t : gives r v (Err z) ≡ true = rw s refl in
+        let l = f i t in
+        omega arith
     go false q e = let y : ◌≡◌ {A = ℕ} 0 1 = cc in omega arith
 
 module _ (d : Description) (at n width : ℕ) (v : ℤ) (lowest : ℕ) (so_far : Lowest width (find_row d at n) v lowest) where
-  pub lowest_kept : lowers (row_at d (at + n)) v lowest (find_row d at n (row_at d (at + n)).index) ≡ false → Lowest width (find_row d at (n + 1)) v lowest
-  lowest_kept f =
+  abbrev row : Row
+  row = row_at d (at + n)
+
+  -- the lowest stays where the further row gives no value that is new
+  stays : ((x : ℕ) → x < lowest → row.index ≡ x → gives row v (find_row d at n x) ≡ true → ⊥) → Lowest width (find_row d at (n + 1)) v lowest
+  stays f =
       subst (λ k. Lowest width (find_row d at k) v lowest) (let e : suc n ≡ n + 1 = omega arith in e)
       (record {
         within = so_far.within;
         gives = λ h. one_more d at n lowest ∙ kept_ok (find_row d at n lowest) _ v (so_far.gives h);
         none = λ x h e.
-            no_lower (row_at d (at + n)) v lowest x (find_row d at n x) h (so_far.none x h)
-            (λ i. ap (λ k. lowers (row_at d (at + n)) v lowest (find_row d at n k)) (sym i) ∙ f) (sym (one_more d at n x) ∙ e);
+            no_lower row v lowest x (find_row d at n x) h (so_far.none x h) (λ i t. absurd (f x h i t)) (sym (one_more d at n x) ∙ e);
       })
 
-  pub lowest_lowered : lowers (row_at d (at + n)) v lowest (find_row d at n (row_at d (at + n)).index) ≡ true → Lowest width (find_row d at (n + 1)) v (row_at d (at + n)).index
-  lowest_lowered t =
-      let r = row_at d (at + n) in
-      let p = and_parts (same (output r) v) _ t in
-      let q = and_parts (ltb r.index lowest) _ p.1 in
-      let l = ltb-true r.index lowest q.0 in
+  here : (a : Check ℤ) → is_err a ≡ true → or_else a (of_row row row.index) ≡ Ok (output row)
+  here (Ok u) e = absurd (false≢true e)
+  here (Err f) e = rw (eq-eqb row.index row.index refl)
+
+  -- it falls to the index of a further row that gives the value lower
+  falls : row.index < lowest → gives row v (find_row d at n row.index) ≡ true → Lowest width (find_row d at (n + 1)) v row.index
+  falls l t =
+      let p = and_parts (same (output row) v) _ t in
       let w = so_far.within in
-      subst (λ k. Lowest width (find_row d at k) v r.index) (let e : suc n ≡ n + 1 = omega arith in e)
+      subst (λ k. Lowest width (find_row d at k) v row.index) (let e : suc n ≡ n + 1 = omega arith in e)
       (record {
         within = omega arith;
-        gives = λ h. one_more d at n r.index ∙ here (find_row d at n r.index) q.1 ∙ ap (λ z. Ok z) (same_eq (output r) v (subst T (sym p.0) tt));
+        gives = λ h. one_more d at n row.index ∙ here (find_row d at n row.index) p.1 ∙ ap (λ z. Ok z) (same_eq (output row) v (subst T (sym p.0) tt));
         none = λ x h e.
-            no_lower r v r.index x (find_row d at n x) h (so_far.none x (omega arith)) (λ i. absurd (let z : ⊥ = omega arith in z)) (sym (one_more d at n x) ∙ e);
+            no_lower row v row.index x (find_row d at n x) h (so_far.none x (omega arith)) (λ i t. omega arith) (sym (one_more d at n x) ∙ e);
       })
+
+  lowest_step : Lowest width (find_row d at (n + 1)) v (fold min lowest (cons_option (index_giving d at v n) []))
+  lowest_step = go (gives row v (find_row d at n row.index)) refl
     where
-      here : (a : Check ℤ) → not (is_ok a) ≡ true → or_else a (of_row (row_at d (at + n)) (row_at d (at + n)).index) ≡ Ok (output (row_at d (at + n)))
-      here (Ok u) e = absurd (false≢true e)
-      here (Err f) e = rw (eq-eqb (row_at d (at + n)).index (row_at d (at + n)).index refl)
+      go : (b : Bool) → gives row v (find_row d at n row.index) ≡ b →
+          Lowest width (find_row d at (n + 1)) v (fold min lowest (cons_option (if b then Some row.index else None) []))
+      go false e = stays (λ x h i t. false≢true (sym e ∙ ap (λ k. gives row v (find_row d at n k)) i ∙ t))
+      go true e = elim (cases_lt row.index lowest) [
+        | inl h ↦ (let m : min lowest row.index ≡ row.index = omega arith in subst (Lowest width (find_row d at (n + 1)) v) (sym m) (falls h e))
+        | inr h ↦ (let m : min lowest row.index ≡ lowest = omega arith in
+            subst (Lowest width (find_row d at (n + 1)) v) (sym m) (stays (λ x l i t. (let z : ⊥ = omega arith in z))))
+      ]
 
 pub lowest_first : (d : Description) (at width : ℕ) (v : ℤ) → Lowest width (find_row d at 0) v (2 ^ width)
 unfolding find_row
 lowest_first d at width v =
     record { within = omega arith; gives = λ h. absurd (let z : ⊥ = omega arith in z); none = λ x h e. let y : ◌≡◌ {A = ℕ} 0 1 = cc in omega arith }
+
+-- the chain over n more rows from row k on
+pub lowest_chain : (d : Description) (at width : ℕ) (v : ℤ) (n k lowest : ℕ) → Lowest width (find_row d at k) v lowest →
+    Lowest width (find_row d at (k + n)) v (fold min lowest (filter_map (index_giving d at v) (range_with_len k n)))
+lowest_chain d at width v zero k lowest l = rw add-zero l
+lowest_chain d at width v (suc n) k lowest l =
+    subst (λ m. Lowest width (find_row d at m) v (fold min lowest (filter_map (index_giving d at v) (range_with_len k (suc n)))))
+    (let e : k + 1 + n ≡ k + suc n = omega arith in e)
+    (go (index_giving d at v k) (lowest_step d at k width v lowest l) (lowest_chain d at width v n (k + 1)))
+  where
+    go : (g : Option ℕ) → Lowest width (find_row d at (k + 1)) v (fold min lowest (cons_option g [])) →
+        ((a : ℕ) → Lowest width (find_row d at (k + 1)) v a → Lowest width (find_row d at (k + 1 + n)) v (fold min a (filter_map (index_giving d at v) (range_with_len (k + 1) n)))) →
+        Lowest width (find_row d at (k + 1 + n)) v (fold min lowest (cons_option g (filter_map (index_giving d at v) (range_with_len (k + 1) n))))
+    go (Some i) step more = more (min lowest i) step
+    go None step more = more lowest step

@@ -1,3 +1,4 @@
+pub mod Indices
 pub mod Owned
 pub mod Store
 pub mod Trial

@@ -42,8 +42,8 @@ fn lowest(value: u64, n: u32) -> u64
     }
 }
 
-// The lowest bits of a number that ends at place `end`, up to place q: bits past it are shifted out, and bits that it has
-// not are 0. The tests stand here since `checked_shl` takes no 64-bit amount.
+// The lowest bits of a number that ends at place `end`, up to place q: bits past it are shifted out, and bits that it
+// has not are 0. The tests stand here since `checked_shl` takes no 64-bit amount.
 fn shifted(value: u64, end: u64, q: u64) -> u64
     ensures { result ≡ value * 2 ^ (q - end) / 2 ^ (end - q) % 2 ^ 64 }
 {

@@ -5,7 +5,6 @@ ghost use Rattle.table.specs.Description.{description, line_at};
 ghost use Rattle.roundtrip.specs.Own.{complement, value_bits, SensibleValue};
 ghost use Rattle.pending.specs.Owned.{Answers, Narrow};
 
-use crate::lookups::statement_at;
 use crate::maps::map_bits;
 use crate::own::Own;
 use records::statements::Statement;
@@ -45,7 +44,7 @@ pub(crate) fn value_bits(tables: &Loaded, line: u16, value: i64, length: u32) ->
     requires narrow { Narrow (description tables.now) }
     ensures { Answers (value_bits (description tables.now) (statement (line_at (description tables.now) line)) value length) (SensibleValue (description tables.now) (statement (line_at (description tables.now) line)) value length) result }
 {
-    match statement_at(tables, line) {
+    match tables.statement(line as usize)? {
         Statement::Read(_) => read_bits(value, length),
         Statement::MapRead { map, .. } => map_bits(tables, tables.map(map as usize), value),
         _ => None,

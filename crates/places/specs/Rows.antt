@@ -2,7 +2,7 @@
 use Rattle.std.specs.Prelude.{ℕ, Bool, not, ◌&&◌, ◌||◌, length, ◌==◌, nat_lt}
 use Rattle.table.specs.Description.{Description, map_at, row_at}
 use Rattle.table.specs.First.{some_upto}
-use Rattle.passes.specs.Stretches.{in_stretch}
+use Rattle.records.specs.Stretches.{in_stretch}
 use Rattle.places.specs.Classes.{fits}
 
 -- map m has row n

@@ -1,8 +1,8 @@
 -- The top class, extensions, uses and look-aheads where they belong.
-use Rattle.std.specs.Prelude.{ℕ, Bool, false, not, ◌&&◌, ◌||◌, ◌==◌, nat_lt}
+use Rattle.std.specs.Prelude.{ℕ, Bool, false, not, ◌&&◌, ◌||◌, ◌==◌, nat_lt, Option, Some, None}
 use Rattle.records.specs.Classes.{is_base, is_member}
 use Rattle.records.specs.declared.statements.Statement.{Statement}
-use Rattle.records.specs.declared.statements.Statement.TheVariants.{Read, Assign, MapRead, Use, If, While, Unknown}
+use Rattle.records.specs.declared.statements.Statement.TheVariants.{Read, Assign, MapRead, Use, If, While}
 use Rattle.table.specs.Description.{Description, class_at, extension_at, statement_at}
 use Rattle.passes.specs.Families.{expandable}
 
@@ -26,14 +26,14 @@ use_wrong d class count least most = is_member (class_at d class) || count == 0 
 abbrev pub read_wrong : (ahead count : ℕ) → Bool
 read_wrong ahead count = not (ahead == 0) && not (count == 0)
 
-abbrev pub statement_wrong : Description → Statement → Bool
-statement_wrong d (Read fields) = read_wrong fields.ahead fields.count
-statement_wrong d (Assign name node) = false
-statement_wrong d (MapRead map name) = false
-statement_wrong d (Use fields) = use_wrong d fields.class fields.count fields.least fields.most
-statement_wrong d (If node first second) = false
-statement_wrong d (While node lines rounds) = false
-statement_wrong d Unknown = false
+abbrev pub statement_wrong : Description → Option Statement → Bool
+statement_wrong d (Some (Read fields)) = read_wrong fields.ahead fields.count
+statement_wrong d (Some (Assign name node)) = false
+statement_wrong d (Some (MapRead map name)) = false
+statement_wrong d (Some (Use fields)) = use_wrong d fields.class fields.count fields.least fields.most
+statement_wrong d (Some (If node first second)) = false
+statement_wrong d (Some (While node lines rounds)) = false
+statement_wrong d None = false
 
 abbrev pub line_place : Description → ℕ → Bool
 line_place d n = statement_wrong d (statement_at d n)

@@ -4,7 +4,7 @@ ghost use Rattle.places.specs.Rows.{in_map, repeats, index_wrong, row_place};
 
 use crate::classes::fits;
 use passes::first::some;
-use passes::stretches::Stretch;
+use records::stretches::Stretch;
 use table::loaded::Loaded;
 
 // Whether map m has row n.

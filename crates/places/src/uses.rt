@@ -47,12 +47,12 @@ fn read_wrong(line: ReadLine) -> bool
 }
 
 // Whether a read or a use is where it does not belong.
-fn statement_wrong(loaded: &Loaded, s: Statement) -> bool
+fn statement_wrong(loaded: &Loaded, s: Option<Statement>) -> bool
     ensures { result ≡ statement_wrong (description loaded.now) s }
 {
     match s {
-        Statement::Read(line) => read_wrong(line),
-        Statement::Use(line) => use_wrong(loaded, line),
+        Some(Statement::Read(line)) => read_wrong(line),
+        Some(Statement::Use(line)) => use_wrong(loaded, line),
         _ => false,
     }
 }

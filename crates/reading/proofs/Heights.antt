@@ -1,5 +1,5 @@
 -- A description without a fault is one that a reading can go by.
-use Rattle.std.proofs.Common.{◌≡◌, ℕ, zero, suc, ◌+◌, ◌-◌, ◌*◌, ◌<◌, ◌≤◌, min, true, not, ◌&&◌, eqb, ltb, leb, ◌⊎◌, List, length, None, sym, refl, ap, ◌∙◌, subst, subst₂, inl, inr, arith, leb-true}
+use Rattle.std.proofs.Common.{◌≡◌, ℕ, zero, suc, ◌+◌, ◌-◌, ◌*◌, ◌<◌, ◌≤◌, min, true, not, ◌&&◌, eqb, ltb, leb, ◌⊎◌, List, length, None, sym, refl, ap, ◌∙◌, subst, subst₂, inl, inr, arith, leb-true, Option, Some}
 use native.Mathlib.Decide.{dec_le}
 use lib.ListN.{get_or-eq_default}
 use Rattle.std.proofs.lemmas.Bool.{not-false, and_parts}
@@ -10,7 +10,7 @@ use Rattle.records.specs.declared.records.Extension.{Extension}
 use Rattle.records.specs.declared.records.Line.{Line}
 use Rattle.records.specs.declared.records.Map.{Map}
 use Rattle.records.specs.declared.statements.Statement.{Statement}
-use Rattle.records.specs.declared.statements.Statement.TheVariants.{Read, Assign, MapRead, Use, If, While, Unknown}
+use Rattle.records.specs.declared.statements.Statement.TheVariants.{Read, Assign, MapRead, Use, If, While}
 use Rattle.records.specs.Statements.{statement, written}
 use Rattle.fields.specs.Lines.{statement_fine}
 use Rattle.fields.specs.Tables.{class_fine, map_fine, base_fine, abstract_fine}
@@ -51,17 +51,17 @@ module _ (d : Description) where
   at_place b i j m n p q = subst₂ (λ x y. high x y ≤ b) p q
 
   -- a line and its blocks, by the heights of what they hold
-  line_high : (s : Statement) (i k e : ℕ) → taken s ≤ suc k → high (i + taken s) (suc k - taken s) ≤ most e
+  line_high : (s : Option Statement) (i k e : ℕ) → taken s ≤ suc k → high (i + taken s) (suc k - taken s) ≤ most e
       → (has_blocks s ≡ true → (e < 8) × (high (i + 1) (in_first s) ≤ most (e + 1)) × (high (i + 1 + in_first s) (in_second s) ≤ most (e + 1)))
       → height (coded s i k (code d.lines)) ≤ most e
   unfolding coded height
-  line_high (Read fields) i k e t r b =
+  line_high (Some (Read fields)) i k e t r b =
       let h = at_place (most e) (i + 1) (suc i) (suc k - 1) k (omega arith) (omega arith) r in omega arith
-  line_high (Assign name node) i k e t r b = at_place (most e) (i + 1) (suc i) (suc k - 1) k (omega arith) (omega arith) r
-  line_high (MapRead map name) i k e t r b = at_place (most e) (i + 1) (suc i) (suc k - 1) k (omega arith) (omega arith) r
-  line_high (Use fields) i k e t r b =
+  line_high (Some (Assign name node)) i k e t r b = at_place (most e) (i + 1) (suc i) (suc k - 1) k (omega arith) (omega arith) r
+  line_high (Some (MapRead map name)) i k e t r b = at_place (most e) (i + 1) (suc i) (suc k - 1) k (omega arith) (omega arith) r
+  line_high (Some (Use fields)) i k e t r b =
       let h = at_place (2 * (8 - e) + 1) (i + 1) (suc i) (suc k - 1) k (omega arith) (omega arith) r in omega arith
-  line_high (If node first second) i k e t r b =
+  line_high (Some (If node first second)) i k e t r b =
       let q = b refl in
       let m : min first k ≡ first = omega arith in
       let n : min second (k - first) ≡ second = omega arith in
@@ -70,19 +70,19 @@ module _ (d : Description) where
       let z = at_place (most e) (i + (1 + first + second)) (suc i + first + second) (suc k - (1 + first + second)) (k - first - second) (omega arith) (omega arith) r in
       let l : e < 8 = q.0 in
       rw (m, n) (omega arith)
-  line_high (While node lines rounds) i k e t r b =
+  line_high (Some (While node lines rounds)) i k e t r b =
       let q = b refl in
       let m : min lines k ≡ lines = omega arith in
       let x = at_place (most (e + 1)) (i + 1) (suc i) lines lines (omega arith) refl q.1 in
       let z = at_place (most e) (i + (1 + lines + 0)) (suc i + lines) (suc k - (1 + lines + 0)) (k - lines) (omega arith) (omega arith) r in
       let l : e < 8 = q.0 in
       rw m (omega arith)
-  line_high Unknown i k e t r b = at_place (most e) (i + 1) (suc i) (suc k - 1) k (omega arith) (omega arith) r
+  line_high None i k e t r b = at_place (most e) (i + 1) (suc i) (suc k - 1) k (omega arith) (omega arith) r
 
-  not_deep : (s : Statement) (e : ℕ) → not (has_blocks s && leb 8 e) ≡ true → has_blocks s ≡ true → e < 8
+  not_deep : (s : Option Statement) (e : ℕ) → not (has_blocks s && leb 8 e) ≡ true → has_blocks s ≡ true → e < 8
   not_deep s e h b = let t : not (leb 8 e) ≡ true = subst (λ x. not (x && leb 8 e) ≡ true) b h in grind (arith, nat_tests)
 
-  one_taken : (s : Statement) → taken s ≡ 1 + in_first s + in_second s
+  one_taken : (s : Option Statement) → taken s ≡ 1 + in_first s + in_second s
   one_taken s = refl
 
   none_high : (i b : ℕ) → high i 0 ≤ b
@@ -130,14 +130,14 @@ module _ (d : Description) where
         (λ a b. block_high (extension_at d n).number (extension_at d n).number (extension_at d n).first 0 (omega arith) (omega arith) (nest.extension_nests n a b))
 
 -- a name that a fine line writes is there
-name_written : (counts : Counts) (s : Statement) → statement_fine counts s ≡ true → written s ≤ counts.names
-name_written counts (Read fields) e = grind (arith, nat_tests)
-name_written counts (Assign name node) e = grind (arith, nat_tests)
-name_written counts (MapRead map name) e = grind (arith, nat_tests)
-name_written counts (Use fields) e = grind (arith, nat_tests)
-name_written counts (If node first second) e = omega arith
-name_written counts (While node lines rounds) e = omega arith
-name_written counts Unknown e = omega arith
+name_written : (counts : Counts) (s : Option Statement) → statement_fine counts s ≡ true → written s ≤ counts.names
+name_written counts (Some (Read fields)) e = grind (arith, nat_tests)
+name_written counts (Some (Assign name node)) e = grind (arith, nat_tests)
+name_written counts (Some (MapRead map name)) e = grind (arith, nat_tests)
+name_written counts (Some (Use fields)) e = grind (arith, nat_tests)
+name_written counts (Some (If node first second)) e = omega arith
+name_written counts (Some (While node lines rounds)) e = omega arith
+name_written counts None e = omega arith
 
 class_narrow : (counts : Counts) (c : Class) → class_fine counts c ≡ true → c.width ≤ 16
 class_narrow counts c e =

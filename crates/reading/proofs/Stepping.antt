@@ -17,10 +17,11 @@ use Rattle.objects.specs.Tops.{tops}
 use Rattle.objects.specs.Frames.{frames}
 use Rattle.objects.specs.Ahead.{Fit, Inner, inner_of, with_names, state}
 use Rattle.objects.proofs.Stacks.{tops_set, stack_pop, tops_length}
+use Rattle.reading.specs.declared.open_object.Using.{Using}
 use Rattle.reading.specs.declared.open_object.OpenObject.{OpenObject}
 use Rattle.reading.specs.declared.walk.Walk.{Walk}
 use Rattle.reading.specs.Pushes.{Pushed, around}
-use Rattle.reading.specs.Walks.{no_object, objects_of, rest, rest_from, walk_ahead, AllFit, Sound, Answered, beginning, received}
+use Rattle.reading.specs.Walks.{by_none, no_object, objects_of, rest, rest_from, walk_ahead, AllFit, Sound, Answered, beginning, received}
 use Rattle.reading.proofs.Entering.{one_receives}
 
 pub known_class : (c g : ℕ) → c ≢ 0 → (not (eqb c 0) || not (eqb g 0)) ≡ true
@@ -33,9 +34,9 @@ module _ (d : Description) (bits : List Bool) (a : OpenObject) (p : ℕ) (w v : 
   pub pushed_ahead : walk_ahead d bits v ≡ rest d bits (a ∷ objects_of w) p
   pushed_ahead = λ i. cond (h.started i) (rest d bits (h.objects i) (h.place i)) (reading d bits)
 
-  pub pushed_sound : Sound d w → Fit d (frames a.inside.frames) → a.about.receiving ≤ 128 → p ≤ 2147483647 → Sound d v
+  pub pushed_sound : Sound d w → Fit d (frames a.inside.frames) → p ≤ 2147483647 → Sound d v
   unfolding Sound AllFit
-  pushed_sound s f r n = (subst (AllFit d) (sym h.objects) (f, r, s.0), subst (λ k. k ≤ 2147483647) (sym h.place) n)
+  pushed_sound s f n = (subst (AllFit d) (sym h.objects) (f, s.0), subst (λ k. k ≤ 2147483647) (sym h.place) n)
 
 -- a walk that has begun, by its innermost object
 pub begun_ahead : (d : Description) (bits : List Bool) (w : Walk) → w.started ≡ true → walk_ahead d bits w ≡ rest d bits (objects_of w) w.place
@@ -105,11 +106,11 @@ pub sound_from : (d : Description) (w : Walk) (os : List OpenObject) → objects
 unfolding Sound
 sound_from d w os e f n = (subst (AllFit d) (sym e) f, n)
 
-pub all_cons : (d : Description) (a : OpenObject) (os : List OpenObject) → Fit d (frames a.inside.frames) → a.about.receiving ≤ 128 → AllFit d os → AllFit d (a ∷ os)
+pub all_cons : (d : Description) (a : OpenObject) (os : List OpenObject) → Fit d (frames a.inside.frames) → AllFit d os → AllFit d (a ∷ os)
 unfolding AllFit
-all_cons d a os f r s = (f, r, s)
+all_cons d a os f s = (f, s)
 
-pub all_head : (d : Description) (a : OpenObject) (os : List OpenObject) → AllFit d (a ∷ os) → Fit d (frames a.inside.frames) × (a.about.receiving ≤ 128) × AllFit d os
+pub all_head : (d : Description) (a : OpenObject) (os : List OpenObject) → AllFit d (a ∷ os) → Fit d (frames a.inside.frames) × AllFit d os
 unfolding AllFit
 all_head d a os s = s
 
@@ -125,7 +126,7 @@ answered_from d bits (Ok None) w e t = record { same = e ∙ t.same; still = t.s
 answered_from d bits (Err f) w e t = record { same = e ∙ t.same; sound = t.sound }
 
 pub start_run : (d : Description) (bits : List Bool) (os : List OpenObject) (n : ℕ) → os ≡ [] → n ≡ length bits
-    → reading d bits ≡ beginning d bits os 0 d.top 0 0 0 (record { end = n; object = false }) 0
+    → reading d bits ≡ beginning d bits os (by_none d.top) (record { end = n; object = false }) 0
 unfolding reading rest_from
 start_run d bits os n z e = rw (z, e) refl
 
@@ -134,17 +135,17 @@ unfolding AllFit
 none_sound d w z p = sound_from d w [] (none_open w z) tt (omega arith)
 
 -- where the value of an object that is left goes
-module _ (d : Description) (bits : List Bool) (xs : List OpenObject) (i carried receiving q : ℕ) (c : Inner) where
-  pub left_last : i ≡ 0 → rest_from d bits (around xs i) (received carried receiving (state q c) (around xs i)) ≡ rest d bits (around xs i) q
+module _ (d : Description) (bits : List Bool) (xs : List OpenObject) (i : ℕ) (used : Using) (q : ℕ) (c : Inner) where
+  pub left_last : i ≡ 0 → rest_from d bits (around xs i) (received used (state q c) (around xs i)) ≡ rest d bits (around xs i) q
   unfolding tops rest_from
   left_last z = rw z refl
 
-  pub left_others : 0 < i → (j : Inside) → inner_of j ≡ with_names (write receiving (c.names carried) (named_by (get_or xs (i - 1) no_object).inside.names)) (inner_of (get_or xs (i - 1) no_object).inside)
-      → rest_from d bits (around xs i) (received carried receiving (state q c) (around xs i))
-      ≡ rest d bits (record { about = (get_or xs (i - 1) no_object).about; inside = j } ∷ around xs (i - 1)) q
+  pub left_others : 0 < i → (j : Inside) → inner_of j ≡ with_names (write used.receiving (c.names used.carried) (named_by (get_or xs (i - 1) no_object).inside.names)) (inner_of (get_or xs (i - 1) no_object).inside)
+      → rest_from d bits (around xs i) (received used (state q c) (around xs i))
+      ≡ rest d bits (record { opened = (get_or xs (i - 1) no_object).opened; inside = j } ∷ around xs (i - 1)) q
   left_others h j e =
-      ap (λ (os : List OpenObject). rest_from d bits os (received carried receiving (state q c) os)) (around_next xs i h)
-      ∙ one_receives d bits carried receiving (state q c) (get_or xs (i - 1) no_object) j (around xs (i - 1)) e
+      ap (λ (os : List OpenObject). rest_from d bits os (received used (state q c) os)) (around_next xs i h)
+      ∙ one_receives d bits used (state q c) (get_or xs (i - 1) no_object) j (around xs (i - 1)) e
 
 pub received-objects : (v : Walk) (xs : List OpenObject) (i : ℕ) (x : OpenObject) → v.objects ≡ set xs (i - 1) x → v.depth ≡ i → 0 < i → i < 16 → i - 1 < length xs
     → objects_of v ≡ x ∷ around xs (i - 1)
@@ -156,8 +157,8 @@ received-objects v xs i x e z h k l =
     ∙ ap₂ ◌∷◌ (get_or-set_same xs (i - 1) x no_object l) (tops_set no_object xs (i - 1) x (i - 1) r)
 
 pub received_fit : (d : Description) (xs : List OpenObject) (i : ℕ) → 0 < i → (j : Inside) (n : Names) → inner_of j ≡ with_names n (inner_of (get_or xs (i - 1) no_object).inside)
-    → AllFit d (around xs i) → AllFit d (record { about = (get_or xs (i - 1) no_object).about; inside = j } ∷ around xs (i - 1))
+    → AllFit d (around xs i) → AllFit d (record { opened = (get_or xs (i - 1) no_object).opened; inside = j } ∷ around xs (i - 1))
 received_fit d xs i h j n e f =
     let b = all_head d (get_or xs (i - 1) no_object) (around xs (i - 1)) (subst (AllFit d) (around_next xs i h) f) in
-    all_cons d (record { about = (get_or xs (i - 1) no_object).about; inside = j }) (around xs (i - 1))
-    (subst (Fit d) (sym (ap (λ (x : Inner). x.frames) e)) b.0) b.1 b.2
+    all_cons d (record { opened = (get_or xs (i - 1) no_object).opened; inside = j }) (around xs (i - 1))
+    (subst (Fit d) (sym (ap (λ (x : Inner). x.frames) e)) b.0) b.1

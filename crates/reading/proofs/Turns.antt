@@ -1,5 +1,5 @@
 -- A step inside the innermost object is a step of the reading.
-use Rattle.std.proofs.Common.{◌≡◌, ℕ, suc, ◌<◌, ◌≤◌, min, Bool, true, List, ◌∷◌, length, get_or, set, sym, refl, ap, ◌∙◌, subst, arith, get_or-set_same}
+use Rattle.std.proofs.Common.{◌≡◌, ℕ, suc, ◌<◌, ◌≤◌, min, Bool, true, List, ◌∷◌, length, get_or, set, sym, refl, ap, ◌∙◌, subst, arith, get_or-set_same, Result}
 use Rattle.table.specs.Description.{Description}
 use Rattle.rules.specs.declared.faults.ReadingFault.{ReadingFault}
 use Rattle.rules.specs.declared.items.Item.{Item}
@@ -9,90 +9,98 @@ use Rattle.rules.specs.Trace.{Run, out, pass}
 use Rattle.rules.specs.Reading.{State, Objects}
 use Rattle.objects.specs.declared.inside.About.{About}
 use Rattle.objects.specs.declared.inside.Inside.{Inside}
+use Rattle.objects.specs.declared.moves.Move.{Move}
 use Rattle.objects.specs.Frames.{frames}
 use Rattle.objects.specs.Ahead.{inner_of, inner_run, object_of, state, Fit}
 use Rattle.objects.specs.Moves as moves
 use Rattle.objects.proofs.Stacks.{tops_set}
+use Rattle.reading.specs.declared.open_object.Opened.{Opened}
 use Rattle.reading.specs.declared.open_object.OpenObject.{OpenObject}
 use Rattle.reading.specs.declared.walk.Walk.{Walk}
 use Rattle.reading.specs.Pushes.{around, after_content, Leaving}
 use Rattle.reading.specs.Walks.{no_object, objects_of, capped, seen, beginning, walk_ahead, AllFit, Sound, Quietly, Gives, Refuses}
-use Rattle.reading.proofs.Entering.{within_others, rest_is, quiet_in, gives_in, refuses_in, begins_in, leaves_in}
+use Rattle.reading.proofs.Entering.{using_of, within_others, rest_is, quiet_in, gives_in, refuses_in, begins_in, leaves_in}
 use Rattle.reading.proofs.Stepping.{innermost, ahead_of, changed-objects, sound_all, sound_near, sound_from, all_head, all_cons}
 
-module _ (d : Description) (bits : List Bool) (w : Walk) (i : ℕ) (e : min w.depth 16 ≡ suc i) (begun : w.started ≡ true) (sound : Sound d w) (l : i < length w.objects) where
-  abbrev it : OpenObject
-  it = get_or w.objects i no_object
+-- a step of an object from a place
+abbrev pub StepOf : Description → List Bool → About → Inside → (p : ℕ) → Result Move ReadingFault → Inside → Type 0
+StepOf d bits a i p r j =
+    moves.Moved d bits (object_of a) (inner_run d bits (object_of a) (inner_of i) p) p r (inner_of j)
 
+module _ (d : Description) (bits : List Bool) (w : Walk) (i : ℕ) (e : min w.depth 16 ≡ suc i) (begun : w.started ≡ true) (sound : Sound d w) (l : i < length w.objects)
+    (it : OpenObject) (is : it ≡ get_or w.objects i no_object) where
   abbrev os : List OpenObject
   os = around w.objects i
 
   abbrev before : Objects → Run State
-  before obj = inner_run d bits (object_of (seen (length bits) it.about)) (inner_of it.inside) w.place obj
+  before obj = inner_run d bits (object_of (seen (length bits) it.opened).about) (inner_of it.inside) w.place obj
 
-  ahead : walk_ahead d bits w ≡ within_others d bits it.about (inner_of it.inside) os w.place
-  ahead = ahead_of d bits w (it ∷ os) w.place begun (innermost w i e) refl ∙ rest_is d bits it.about it.inside os w.place
+  inner_it : objects_of w ≡ it ∷ os
+  inner_it = innermost w i e ∙ ap (λ (x : OpenObject). x ∷ os) (sym is)
 
-  pub fits : Fit d (frames it.inside.frames) × (it.about.receiving ≤ 128) × AllFit d os
-  fits = all_head d it os (subst (AllFit d) (innermost w i e) (sound_all d w sound))
+  ahead : walk_ahead d bits w ≡ within_others d bits it.opened (inner_of it.inside) os w.place
+  ahead = ahead_of d bits w (it ∷ os) w.place begun inner_it refl ∙ rest_is d bits it.opened it.inside os w.place
+
+  pub fits : Fit d (frames it.inside.frames) × AllFit d os
+  fits = all_head d it os (subst (AllFit d) inner_it (sound_all d w sound))
 
   -- the walk with another inside of the innermost object, at a place
   module _ (j : Inside) (q : ℕ) where
     abbrev pub changed : Walk
-    changed = record { objects = set w.objects i (record { about = it.about; inside = j }); depth = w.depth; place = q; started = w.started }
+    changed = record { objects = set w.objects i (record { opened = it.opened; inside = j }); depth = w.depth; place = q; started = w.started }
 
-    pub objects_are : objects_of changed ≡ record { about = it.about; inside = j } ∷ os
-    objects_are = changed-objects changed w.objects i (record { about = it.about; inside = j }) refl e l
+    pub objects_are : objects_of changed ≡ record { opened = it.opened; inside = j } ∷ os
+    objects_are = changed-objects changed w.objects i (record { opened = it.opened; inside = j }) refl e l
 
-    after : walk_ahead d bits changed ≡ within_others d bits it.about (inner_of j) os q
-    after = ahead_of d bits changed (record { about = it.about; inside = j } ∷ os) q begun objects_are refl ∙ rest_is d bits it.about j os q
+    after : walk_ahead d bits changed ≡ within_others d bits it.opened (inner_of j) os q
+    after = ahead_of d bits changed (record { opened = it.opened; inside = j } ∷ os) q begun objects_are refl ∙ rest_is d bits it.opened j os q
 
     pub changed_sound : Fit d (frames j.frames) → q ≤ 2147483647 → Sound d changed
-    changed_sound f n = sound_from d changed _ objects_are (all_cons d (record { about = it.about; inside = j }) os f fits.1 fits.2) n
+    changed_sound f n = sound_from d changed _ objects_are (all_cons d (record { opened = it.opened; inside = j }) os f fits.1) n
 
-    pub turned_quiet : moves.Quietly d bits (object_of (seen (length bits) it.about)) before q (inner_of j) → Quietly d bits (walk_ahead d bits w) changed
+    pub turned_quiet : moves.Quietly d bits (object_of (seen (length bits) it.opened).about) before q (inner_of j) → Quietly d bits (walk_ahead d bits w) changed
     turned_quiet m =
         record {
-          same = ahead ∙ quiet_in d bits it.about os w.place (inner_of it.inside) (inner_of j) q m.same ∙ ap pass (sym after);
+          same = ahead ∙ quiet_in d bits it.opened os w.place (inner_of it.inside) (inner_of j) q m.same ∙ ap pass (sym after);
           sound = changed_sound m.fit m.near;
         }
 
-    pub turned_give : (x : Item) → moves.Gives d bits (object_of (seen (length bits) it.about)) before x q (inner_of j) → Gives d bits (walk_ahead d bits w) x changed
+    pub turned_give : (x : Item) → moves.Gives d bits (object_of (seen (length bits) it.opened).about) before x q (inner_of j) → Gives d bits (walk_ahead d bits w) x changed
     turned_give x m =
         record {
-          same = ahead ∙ gives_in d bits it.about os w.place (inner_of it.inside) (inner_of j) x q m.same ∙ ap (out x) (sym after);
+          same = ahead ∙ gives_in d bits it.opened os w.place (inner_of it.inside) (inner_of j) x q m.same ∙ ap (out x) (sym after);
           sound = changed_sound m.fit m.near;
         }
 
   module _ (j : Inside) where
-    pub turned_refuse : (f : ReadingFault) → moves.Refuses d bits (object_of (seen (length bits) it.about)) before f (inner_of j) → Refuses d bits (walk_ahead d bits w) f (changed j w.place)
+    pub turned_refuse : (f : ReadingFault) → moves.Refuses d bits (object_of (seen (length bits) it.opened).about) before f (inner_of j) → Refuses d bits (walk_ahead d bits w) f (changed j w.place)
     turned_refuse f m =
         record {
-          same = ahead ∙ refuses_in d bits it.about os w.place (inner_of it.inside) f m.same;
+          same = ahead ∙ refuses_in d bits it.opened os w.place (inner_of it.inside) f m.same;
           sound = changed_sound j w.place m.fit (sound_near d w sound);
         }
 
-    pub turned_begin : (line : ℕ) (u : UseLine) (index : ℕ) (v : Window) → v ≡ capped (length bits) it.about.window
-        → moves.Begins d bits (object_of (seen (length bits) it.about)) before w.place line u index (inner_of j)
-        → walk_ahead d bits w ≡ beginning d bits (objects_of (changed j w.place)) line u.class index u.carried u.receiving v w.place
+    pub turned_begin : (line : ℕ) (u : UseLine) (index : ℕ) (v : Window) → v ≡ capped (length bits) it.opened.about.window
+        → (m : moves.Begins d bits (object_of (seen (length bits) it.opened).about) before w.place line u index (inner_of j))
+        → walk_ahead d bits w ≡ beginning d bits (objects_of (changed j w.place)) (using_of line u index m.writes) v w.place
     turned_begin line u index v k m =
         ahead
-        ∙ begins_in d bits it.about os w.place (inner_of it.inside) j line u index m.same
-        ∙ sym (λ t. beginning d bits (objects_are j w.place t) line u.class index u.carried u.receiving (k t) w.place)
+        ∙ begins_in d bits it.opened os w.place (inner_of it.inside) j line u index m.writes m.same
+        ∙ sym (λ t. beginning d bits (objects_are j w.place t) (using_of line u index m.writes) (k t) w.place)
 
-    pub turned_leave : (a : About) → a ≡ seen (length bits) it.about → length bits ≤ 2147483647
-        → moves.Leaves d bits (object_of (seen (length bits) it.about)) before w.place (inner_of j)
+    pub turned_leave : (a : Opened) → a ≡ seen (length bits) it.opened → length bits ≤ 2147483647
+        → moves.Leaves d bits (object_of (seen (length bits) it.opened).about) before w.place (inner_of j)
         → Leaving d bits i a (changed j w.place) (walk_ahead d bits w)
-    turned_leave a is short m =
-        let x : OpenObject = record { about = it.about; inside = j } in
+    turned_leave a seen_a short m =
+        let x : OpenObject = record { opened = it.opened; inside = j } in
         let r : i ≤ i = omega arith in
         let same_it = get_or-set_same w.objects i x no_object l in
         let same_os = tops_set no_object w.objects i x i r in
         record {
-          is = is ∙ sym (ap (λ (y : OpenObject). seen (length bits) y.about) same_it);
-          same = ahead ∙ leaves_in d bits it.about os w.place (inner_of it.inside) (inner_of j) m.same
-              ∙ sym (λ t. after_content d bits (same_it t).about (same_os t) (state w.place (inner_of (same_it t).inside)));
-          fits = subst (AllFit d) (sym same_os) fits.2;
+          is = seen_a ∙ sym (ap (λ (y : OpenObject). seen (length bits) y.opened) same_it);
+          same = ahead ∙ leaves_in d bits it.opened os w.place (inner_of it.inside) (inner_of j) m.same
+              ∙ sym (λ t. after_content d bits (same_it t).opened (same_os t) (state w.place (inner_of (same_it t).inside)));
+          fits = subst (AllFit d) (sym same_os) fits.1;
           near = sound_near d w sound;
           short = short;
         }

@@ -90,13 +90,14 @@ impl<S: Source> Reading<'_, S> {
         self.position
     }
 
-    // Hands items out into a table until it is full, which is tested first, or the reading ends or is refused. Answers how many.
+    // Hands items out into a table until it is full, which is tested first, or the reading ends or is refused.
+    // Answers how many.
     pub fn fill(&mut self, table: &mut [Item]) -> (usize, Filled)
         ensures { Fills (ahead S.bits self.old) table.old result.0 result.1 table.new (ahead S.bits self.new) }
     {
-        for count in 0..table.len() {
+        for (count, slot) in table.iter_mut().enumerate() {
             match self.next() {
-                Ok(Some(item)) => table[count] = item,
+                Ok(Some(item)) => *slot = item,
                 Ok(None) => return (count, Filled::End),
                 Err(fault) => return (count, Filled::Refused(fault)),
             }

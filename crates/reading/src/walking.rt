@@ -6,12 +6,12 @@ ghost use Rattle.rules.specs.Trace.{Run};
 ghost use Rattle.rules.specs.Reading.{open_item, close_item, inner as inner_window, reading};
 ghost use Rattle.rules.specs.Steps.{header as header_at};
 ghost use Rattle.objects.specs.Ahead.{Readable};
-ghost use Rattle.reading.specs.Walks.{objects_of, capped, seen, beginning, rest, walk_ahead, Sound, Answered, Turned};
+ghost use Rattle.reading.specs.Walks.{by_none, objects_of, cut, beginning, rest, walk_ahead, Sound, Answered, Turned};
 ghost use Rattle.reading.specs.Pushes.{Pushed, Leaving};
 
 use crate::ending::at_end;
 use crate::lookups::object_class;
-use crate::open_object::OpenObject;
+use crate::open_object::{OpenObject, Opened, Using};
 use crate::walk::{Answer, Walk};
 use bits::source::Source;
 use objects::inside::{About, Inside};
@@ -27,20 +27,22 @@ use table::loaded::Loaded;
 // As many objects as may be open at once.
 const MOST: usize = 16;
 
-// An object that is to begin: the line that uses it, its declared class, which of the line's objects it is, and its name whose value
-// goes to a name of the object around it.
-#[derive(Clone, Copy)]
-pub(crate) struct Using {
-    pub(crate) line: u16,
-    pub(crate) class: u16,
-    pub(crate) index: u16,
-    pub(crate) carried: u16,
-    pub(crate) receiving: u16,
+// An object of a class that no line uses.
+fn used_by_none(class: u16) -> Using
+    ensures { result ≡ by_none class }
+{
+    Using {
+        line: 0,
+        class,
+        index: 0,
+        carried: 0,
+        receiving: 0,
+    }
 }
 
 // An object's window reaches no further than so many bits.
 fn within(about: About, count: u32) -> About
-    ensures { result ≡ seen count about }
+    ensures { result ≡ cut count about }
 {
     About {
         window: Window {
@@ -66,13 +68,13 @@ fn inner(greatest: u16, header: Header, window: Window) -> Window
 }
 
 // The place after an object: the end of an expandable one.
-fn place_after(about: About, p: u32) -> u32
-    ensures { result ≡ (if nat_eq about.greatest 0 then p else about.window.end) }
+fn place_after(opened: Opened, p: u32) -> u32
+    ensures { result ≡ (if nat_eq opened.greatest 0 then p else opened.about.window.end) }
 {
-    if about.greatest == 0 {
+    if opened.greatest == 0 {
         return p;
     }
-    about.window.end
+    opened.about.window.end
 }
 
 // Which of the open objects is the innermost.
@@ -99,22 +101,25 @@ fn open_item(class: u16, used: Using, header: Header) -> Item
 }
 
 // The item of an object's end.
-fn close_item(about: About, place: u32) -> Item
-    ensures { result ≡ close_item about.class about.line about.index place }
+fn close_item(opened: Opened, place: u32) -> Item
+    ensures { result ≡ close_item opened.about.class opened.used.line opened.used.index place }
 {
     Item {
         kind: Kind::Close,
-        line: about.line,
-        class: about.class,
-        index: about.index,
+        line: opened.used.line,
+        class: opened.about.class,
+        index: opened.used.index,
         value: 0,
         place,
         length: 0,
     }
 }
 
-// That the description is readable is a field of `Reading` and of `Scene`; the steps between hand it on as a `requires`, for a wrapper of
-// the tables would be taken off again at each look-up. The source's length is asked once a step, and handed on with its source.
+// That the description is readable is a field of `Reading` and of `Scene`; the steps between hand it on as a
+// `requires`, for a wrapper of the tables would be taken off again at each look-up. That the walk is sound by the
+// description is a field of `Reading` too, which alone has both: a struct that lends them together would be a second
+// `Reading`, to be sound at each of the writes in `push`, `step` and `leave`. The source's length is asked once a step,
+// and handed on with its source.
 impl Walk {
     // A reading that has not begun.
     pub(crate) fn new() -> Walk
@@ -124,18 +129,17 @@ impl Walk {
             end: 0,
             object: false,
         };
-        let about = About {
-            class: 0,
-            size: 0,
-            window,
+        let opened = Opened {
+            about: About {
+                class: 0,
+                size: 0,
+                window,
+            },
             greatest: 0,
-            line: 0,
-            index: 0,
-            carried: 0,
-            receiving: 0,
+            used: used_by_none(0),
         };
         let object = OpenObject {
-            about,
+            opened,
             inside: Inside::idle(0),
         };
         Walk {
@@ -169,27 +173,25 @@ impl Walk {
         requires sound { Sound (description tables.now) self.old }
         requires room { length (objects_of self.old) < 16 }
         requires readable { Readable (description tables.now) }
-        requires writes { used.receiving ≤ 128 }
         requires most { greatest ≡ greatest_in (description tables.now) used.class }
         requires short { (header.after + 8 * header.size ≤ window.end) × (window.end ≤ 2147483647) }
-        ensures { (bits : List Bool) → window.end ≤ length bits → Ok header ≡ header_at bits window (class_at (description tables.now) used.class) (greatest_in (description tables.now) used.class) self.old.place → Answered (description tables.now) bits (beginning (description tables.now) bits (objects_of self.old) used.line used.class used.index used.carried used.receiving window self.old.place) result self.new }
+        ensures { (bits : List Bool) → window.end ≤ length bits → Ok header ≡ header_at bits window (class_at (description tables.now) used.class) (greatest_in (description tables.now) used.class) self.old.place → Answered (description tables.now) bits (beginning (description tables.now) bits (objects_of self.old) used window self.old.place) result self.new }
     {
         let class = object_class(tables, used.class, header.id);
         if class == 0 && greatest == 0 {
             return Err(Failure::from(ReadingCause::UnknownId).at(used.line, self.place));
         }
-        let about = About {
-            class,
-            size: header.size,
-            window: inner(greatest, header, window),
+        let opened = Opened {
+            about: About {
+                class,
+                size: header.size,
+                window: inner(greatest, header, window),
+            },
             greatest,
-            line: used.line,
-            index: used.index,
-            carried: used.carried,
-            receiving: used.receiving,
+            used,
         };
         let object = OpenObject {
-            about,
+            opened,
             inside: Inside::begun(tables, class),
         };
         self.push(object, header.after);
@@ -200,17 +202,17 @@ impl Walk {
     fn begin<S: Source>(&mut self, view: &View<S>, tables: &Loaded, used: Using) -> Answer
         requires sound { Sound (description tables.now) self.old }
         requires readable { Readable (description tables.now) }
-        requires writes { used.receiving ≤ 128 }
-        ensures { Answered (description tables.now) (S.bits view.now.source.now) (beginning (description tables.now) (S.bits view.now.source.now) (objects_of self.old) used.line used.class used.index used.carried used.receiving view.now.window self.old.place) result self.new }
+        ensures { Answered (description tables.now) (S.bits view.now.source.now) (beginning (description tables.now) (S.bits view.now.source.now) (objects_of self.old) used view.now.window self.old.place) result self.new }
     {
+        let place = self.place;
         if self.depth >= MOST {
-            return Err(Failure::from(ReadingCause::Unchecked).at(used.line, self.place));
+            return Err(Failure::from(ReadingCause::Unchecked).at(used.line, place));
         }
         let greatest = greatest(tables, used.class as usize);
-        match view.header(tables.class(used.class as usize), greatest, self.place) {
-            Ok(header) => self.enter(tables, view.window, used, greatest, header),
-            Err(failure) => Err(failure.at(used.line, self.place)),
-        }
+        let header = view
+            .header(tables.class(used.class as usize), greatest, place)
+            .map_err(|failure| failure.at(used.line, place))?;
+        self.enter(tables, view.window, used, greatest, header)
     }
 
     // Ends the reading, once the top object is closed.
@@ -227,21 +229,22 @@ impl Walk {
     }
 
     // Closes the innermost object, which has nothing left to do.
-    fn leave(&mut self, i: usize, about: About) -> Answer
+    fn leave(&mut self, i: usize, opened: Opened) -> Answer
         requires innermost { min self.old.depth 16 ≡ suc i }
         requires started { self.old.started ≡ true }
-        requires receives { about.receiving ≤ 128 }
-        ensures { (d : Description) (bits : List Bool) (from : Run (Unit {0})) → Leaving d bits i about self.old from → Answered d bits from result self.new }
+        ensures { (d : Description) (bits : List Bool) (from : Run (Unit {0})) → Leaving d bits i opened self.old from → Answered d bits from result self.new }
     {
-        let value = self.objects[i].inside.name(about.carried);
-        let place = place_after(about, self.place);
+        let value = self.objects[i].inside.name(opened.used.carried);
+        let place = place_after(opened, self.place);
         self.place = place;
         self.depth = i;
         if i == 0 {
-            return Ok(Some(close_item(about, place)));
+            return Ok(Some(close_item(opened, place)));
         }
-        self.objects[i - 1].inside.receive(about.receiving, value);
-        Ok(Some(close_item(about, place)))
+        self.objects[i - 1]
+            .inside
+            .receive(opened.used.receiving, value);
+        Ok(Some(close_item(opened, place)))
     }
 
     // One step of the reading; nothing is handed out where it answers none.
@@ -261,7 +264,7 @@ impl Walk {
         let scene = Scene {
             source,
             tables,
-            about: within(self.objects[i].about, count),
+            about: within(self.objects[i].opened.about, count),
             place: self.place,
         };
         match self.objects[i].inside.step(&scene) {
@@ -289,7 +292,11 @@ impl Walk {
                 };
                 Some(self.begin(&scene.view(), tables, used))
             }
-            Ok(Move::Leave) => Some(self.leave(i, within(self.objects[i].about, count))),
+            Ok(Move::Leave) => {
+                let opened = self.objects[i].opened;
+                let about = scene.about;
+                Some(self.leave(i, Opened { about, ..opened }))
+            }
             Err(fault) => Some(Err(fault)),
         }
     }
@@ -309,13 +316,6 @@ impl Walk {
                 object: false,
             },
         };
-        let used = Using {
-            line: 0,
-            class: tables.top,
-            index: 0,
-            carried: 0,
-            receiving: 0,
-        };
-        self.begin(&view, tables, used)
+        self.begin(&view, tables, used_by_none(tables.top))
     }
 }

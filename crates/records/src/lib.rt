@@ -1,4 +1,5 @@
-// The records of a description's seven tables, a view of lines with their fields by name, and the faults of a description.
+// The records of a description's seven tables, stretches of a table, a view of lines with their fields by name, and the
+// faults of a description.
 #![tactic(auto)]
 
 pub mod classes;
@@ -7,3 +8,4 @@ pub mod faults;
 pub mod messages;
 pub mod records;
 pub mod statements;
+pub mod stretches;

@@ -1,7 +1,9 @@
-ghost use Rattle.std.specs.Prelude.{◌≡◌};
+ghost use Rattle.std.specs.Prelude.{◌≡◌, ok_or};
 ghost use Rattle.records.specs.Statements.{statement, read_line, use_line, statement_kind, written};
 
 use crate::records::Line;
+use std::error::Error;
+use std::fmt;
 
 // The fields of a read. A node, a name, a count or a bound of 0 says none.
 #[derive(Clone, Copy, PartialEq, Eq)]
@@ -51,39 +53,52 @@ pub enum Statement {
     If { node: u16, first: u16, second: u16 },
     // the next `lines` lines as long as the node is true, at most `rounds` times
     While { node: u16, lines: u16, rounds: u16 },
-    // a kind that there is not; no Option around a statement, since fourteen matches say what they make of such a line, and each would
-    // then match twice
-    Unknown,
 }
 
-impl From<Line> for Statement {
-    // the line's fields, by the names that they have at its kind
-    ghost from_gives = { λ l s. s ≡ statement l };
+// A number that no kind of line has.
+#[derive(Clone, Copy, PartialEq, Eq, Debug)]
+pub struct UnknownLine {
+    pub kind: u16,
+}
 
-    fn from(line: Line) -> Statement {
+impl fmt::Display for UnknownLine {
+    fn fmt<W: fmt::Write>(&self, f: &mut fmt::Formatter<W>) -> fmt::Result {
+        write!(f, "no kind of line has the number {}", self.kind)
+    }
+}
+
+impl Error for UnknownLine {}
+
+// The line's fields, by the names that they have at its kind.
+impl TryFrom<Line> for Statement {
+    type Error = UnknownLine;
+
+    ghost try_from_gives = { λ line result. result ≡ ok_or (statement line) (record { kind = line.kind }) };
+
+    fn try_from(line: Line) -> Result<Statement, UnknownLine> {
         match line.kind {
-            1 => Statement::Read(read_line(false, line)),
-            2 => Statement::Read(read_line(true, line)),
-            3 => Statement::Assign {
+            1 => Ok(Statement::Read(read_line(false, line))),
+            2 => Ok(Statement::Read(read_line(true, line))),
+            3 => Ok(Statement::Assign {
                 name: line.a,
                 node: line.b,
-            },
-            4 => Statement::MapRead {
+            }),
+            4 => Ok(Statement::MapRead {
                 map: line.a,
                 name: line.b,
-            },
-            5 => Statement::Use(use_line(line)),
-            6 => Statement::If {
+            }),
+            5 => Ok(Statement::Use(use_line(line))),
+            6 => Ok(Statement::If {
                 node: line.a,
                 first: line.b,
                 second: line.c,
-            },
-            7 => Statement::While {
+            }),
+            7 => Ok(Statement::While {
                 node: line.a,
                 lines: line.b,
                 rounds: line.c,
-            },
-            _ => Statement::Unknown,
+            }),
+            kind => Err(UnknownLine { kind }),
         }
     }
 }
@@ -118,20 +133,20 @@ fn use_line(line: Line) -> UseLine
     }
 }
 
-impl Statement {
-    // The name that a line writes, 0 if none. No Option: records say none by 0, and a look-up of 0 is defined.
-    pub fn written(self) -> u16
-        ensures { result ≡ written self }
-    {
-        match self {
-            Statement::Read(line) => line.name,
-            Statement::Assign { name, .. } | Statement::MapRead { name, .. } => name,
-            Statement::Use(line) => line.receiving,
-            Statement::If { .. } | Statement::While { .. } | Statement::Unknown => 0,
-        }
+// The name that a line writes, 0 if none. No Option: records say none by 0, and a look-up of 0 is defined.
+pub fn written(statement: Option<Statement>) -> u16
+    ensures { result ≡ written statement }
+{
+    match statement {
+        Some(Statement::Read(line)) => line.name,
+        Some(Statement::Assign { name, .. } | Statement::MapRead { name, .. }) => name,
+        Some(Statement::Use(line)) => line.receiving,
+        Some(Statement::If { .. } | Statement::While { .. }) | None => 0,
     }
+}
 
-    // The number of the kind, 0 for one that there is not.
+impl Statement {
+    // The number of the kind. By a match: `as` takes no case with fields.
     pub fn kind(self) -> u16
         ensures { result ≡ statement_kind self }
     {
@@ -142,7 +157,6 @@ impl Statement {
             Statement::Use(_) => 5,
             Statement::If { .. } => 6,
             Statement::While { .. } => 7,
-            Statement::Unknown => 0,
         }
     }
 }

@@ -1,11 +1,13 @@
--- Single steps: what a step gives over some bits, it gives over any bits that have what was taken and 0 where it skipped.
+-- Single steps: what a step gives over some bits, it gives over any bits that have what was taken and 0 where it
+-- skipped.
 use Rattle.rules.specs.declared.faults.ReadingCause.{ReadingCause}
 use Rattle.rules.specs.declared.faults.ReadingCause.TheVariants.{SkippedBits}
 use Rattle.std.proofs.Common.{◌≡◌, ℕ, zero, suc, ◌+◌, ◌-◌, ◌^◌, ◌<◌, ◌≤◌, Bool, true, false, cond, not, T, eqb, leb, List, length, ℤ, pos, Ok, Err, sym, refl, ap, ◌∙◌, subst, inl, inr, mod-eq_of_lt, arith, le→leb, T_not}
 use Rattle.std.proofs.lemmas.Bool.{cases_lt}
 use Rattle.bits.proofs.Numbers.{number-bits_of}
 use Rattle.rules.proofs.Facts.{via, ok_same, aligned_facts, taken_facts, natural_bound, multiple_above}
-use Rattle.rules.proofs.Booleans.{true_of, false_of, decide}
+use Rattle.checked.proofs.Booleans.{true_of, false_of}
+use Rattle.rules.proofs.Booleans.{decide}
 use Rattle.rules.specs.Checks.{Check, then, ensure}
 use Rattle.bits.specs.Bits.{number, part, bits_of, length-bits_of}
 use Rattle.records.specs.declared.statements.ReadLine.{ReadLine}

@@ -1,6 +1,6 @@
 -- A reading stands, at each place, as a writing wants it.
 use Rattle.rules.specs.declared.faults.ReadingCause.TheVariants.{UnknownId, BitsLeft, TooManyRounds}
-use Rattle.std.proofs.Common.{◌≡◌, ℕ, zero, suc, ◌+◌, ◌-◌, ◌*◌, ◌^◌, ◌<◌, ◌≤◌, Bool, true, false, not, ◌&&◌, ◌||◌, T, eqb, ltb, leb, ◌⊎◌, List, [], ◌∷◌, length, drop, ℤ, nat_abs, Ok, Err, sym, refl, ap, ◌∙◌, subst, inl, inr, arith, leb→le, T_not, length-drop, take_all}
+use Rattle.std.proofs.Common.{◌≡◌, ℕ, zero, suc, ◌+◌, ◌-◌, ◌*◌, ◌^◌, ◌<◌, ◌≤◌, Bool, true, false, not, ◌&&◌, ◌||◌, T, eqb, ltb, leb, ◌⊎◌, List, [], ◌∷◌, length, drop, ℤ, nat_abs, Ok, Err, sym, refl, ap, ◌∙◌, subst, inl, inr, arith, leb→le, T_not, length-drop, take_all, Some}
 use Rattle.std.proofs.Math.Facts.{and_yes, yes_and}
 use lib.Dec.{nleb→lt}
 use Rattle.rules.proofs.Facts.{ensure_ok, via, ok_same, aligned_facts, multiple_above, inner_facts, closed_facts, place_of}
@@ -124,29 +124,29 @@ module _ (d : Description) (L : ℕ) where
       (stands_bind d L G (quiet_aligned w to p line place) h)
 
   -- own bits of the items of lines
-  pub read_own : (o : Object) (line index : ℕ) (l : ReadLine) (g : Got) → statement (line_at d line) ≡ Read l →
+  pub read_own : (o : Object) (line index : ℕ) (l : ReadLine) (g : Got) → statement (line_at d line) ≡ Some (Read l) →
       own_bits d (value_item o line index g) ≡ bits_of g.length (complement g.length g.value)
   unfolding value_bits
   read_own o line index l g e = ap (λ st. value_bits d st g.value g.length) e
 
-  pub map_own : (o : Object) (line index m name : ℕ) (g : Got) → statement (line_at d line) ≡ MapRead m name →
+  pub map_own : (o : Object) (line index m name : ℕ) (g : Got) → statement (line_at d line) ≡ Some (MapRead m name) →
       own_bits d (value_item o line index g) ≡ bits_of (map_at d m).width (lowest_index (map_at d m).width (map_output d m) g.value)
   unfolding value_bits
   map_own o line index m name g e = ap (λ st. value_bits d st g.value g.length) e
 
-  read_sensible : (o : Object) (line index : ℕ) (l : ReadLine) (g : Got) → statement (line_at d line) ≡ Read l → g.length ≤ 32 →
+  read_sensible : (o : Object) (line index : ℕ) (l : ReadLine) (g : Got) → statement (line_at d line) ≡ Some (Read l) → g.length ≤ 32 →
       complement g.length g.value < 2 ^ g.length → Sensible d (value_item o line index g)
   unfolding SensibleValue
   read_sensible o line index l g e x y = subst (λ st. SensibleValue d st g.value g.length) (sym e) (x, y)
 
-  map_sensible : (o : Object) (line index m name : ℕ) (g : Got) → statement (line_at d line) ≡ MapRead m name →
+  map_sensible : (o : Object) (line index m name : ℕ) (g : Got) → statement (line_at d line) ≡ Some (MapRead m name) →
       lowest_index (map_at d m).width (map_output d m) g.value < 2 ^ (map_at d m).width →
       Sensible d (value_item o line index g)
   unfolding SensibleValue
   map_sensible o line index m name g e x = subst (λ st. SensibleValue d st g.value g.length) (sym e) x
 
   module _ (o : Object) (inside : o.window.end ≤ L) where
-    pub stands_elements : (line : ℕ) (l : ReadLine) → Tells d (Read l) line → (n index : ℕ) (s : State) → s.place ≤ o.window.end →
+    pub stands_elements : (line : ℕ) (l : ReadLine) → Tells d (Some (Read l)) line → (n index : ℕ) (s : State) → s.place ≤ o.window.end →
         Stands d L place_of o.window.end s.place (λ B. elements d B o line l n index s)
     unfolding elements
     stands_elements line l ok zero index s h = stands_pass d L (stands_done d L s (omega arith) h)
@@ -174,7 +174,7 @@ module _ (d : Description) (L : ℕ) where
     module _ (obj : List Bool → Objects)
         (objs : (line declared index : ℕ) (w : Window) (p : ℕ) → declared_at d line ≡ declared → p ≤ w.end → w.end ≤ L →
         Stands d L place_of w.end p (λ B. obj B line declared index w p)) where
-      pub stands_objects : (line : ℕ) (l : UseLine) → Tells d (Use l) line → (n index : ℕ) (s : State) → s.place ≤ o.window.end →
+      pub stands_objects : (line : ℕ) (l : UseLine) → Tells d (Some (Use l)) line → (n index : ℕ) (s : State) → s.place ≤ o.window.end →
           Stands d L place_of o.window.end s.place (λ B. objects d B (obj B) o line l n index s)
       unfolding objects
       stands_objects line l ok zero index s h = stands_pass d L (stands_done d L s (omega arith) h)
@@ -188,7 +188,7 @@ module _ (d : Description) (L : ℕ) where
       stands_enough line l index s h =
           stands_attempt d L line s.place _ (λ u B. pass (done s)) (λ u e. stands_pass d L (stands_done d L s (omega arith) h))
 
-      pub stands_to_end : (line : ℕ) (l : UseLine) → Tells d (Use l) line → (n index : ℕ) (s : State) → s.place ≤ o.window.end →
+      pub stands_to_end : (line : ℕ) (l : UseLine) → Tells d (Some (Use l)) line → (n index : ℕ) (s : State) → s.place ≤ o.window.end →
           Stands d L place_of o.window.end s.place (λ B. objects_to_end d B (obj B) o line l n index s)
       unfolding objects_to_end
       stands_to_end line l ok zero index s h = stands_enough line l index s h
@@ -202,7 +202,7 @@ module _ (d : Description) (L : ℕ) where
           (objs line l.class index o.window s.place ok h inside)
           (λ t le m. stands_to_end line l ok n (suc index) (after_object l t s) m))
 
-      pub stands_used : (line : ℕ) (l : UseLine) → Tells d (Use l) line → (k : ℕ) (s : State) → s.place ≤ o.window.end →
+      pub stands_used : (line : ℕ) (l : UseLine) → Tells d (Some (Use l)) line → (k : ℕ) (s : State) → s.place ≤ o.window.end →
           Stands d L place_of o.window.end s.place (λ B. used d B (obj B) o line l k s)
       unfolding used
       stands_used line l ok zero s h = stands_pass d L (stands_to_end line l ok l.most 0 s h)

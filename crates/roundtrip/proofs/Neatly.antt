@@ -1,7 +1,7 @@
 -- The tidy reading goes as the plain one does, up to the first item that is not neat.
 use Rattle.records.specs.declared.statements.Statement.TheVariants.{Read, Use}
 use Rattle.rules.specs.declared.faults.ReadingCause.TheVariants.{UnknownId, BitsLeft}
-use Rattle.std.proofs.Common.{◌≡◌, ℕ, zero, suc, ◌+◌, ◌-◌, ◌*◌, ◌/◌, ◌%◌, ◌^◌, ◌<◌, ◌≤◌, Bool, true, false, not, ◌&&◌, ◌||◌, T, eqb, ltb, leb, List, [], ◌∷◌, length, get_or, take, drop, ℤ, Ok, Err, sym, refl, ap, ◌∙◌, subst, arith, eqb→eq, ltb→lt, nltb→le, drop-cons, pow_pos}
+use Rattle.std.proofs.Common.{◌≡◌, ℕ, zero, suc, ◌+◌, ◌-◌, ◌*◌, ◌/◌, ◌%◌, ◌^◌, ◌<◌, ◌≤◌, Bool, true, false, not, ◌&&◌, ◌||◌, T, eqb, ltb, leb, List, [], ◌∷◌, length, get_or, take, drop, ℤ, Ok, Err, sym, refl, ap, ◌∙◌, subst, arith, eqb→eq, ltb→lt, nltb→le, drop-cons, pow_pos, Some}
 use Rattle.std.proofs.Math.Facts.{and_yes, yes_and}
 use Rattle.std.proofs.lemmas.Bool.{eqb-true}
 use Rattle.rules.proofs.Facts.{ensure_ok, via, ok_same, aligned_facts, header_facts, inner_facts, multiple_above}
@@ -124,7 +124,7 @@ module _ (d : Description) (B : List Bool) where
   neat_value o line index g p h = record { known = h; near = λ x. absurd x; zeros = λ x. absurd x }
 
   module _ (o : Object) (named : o.class ≡ 0 → ⊥) (fits : o.window.end ≤ length B) where
-    pub tidied_elements : (line : ℕ) (l : ReadLine) → Tells d (Read l) line → (n index : ℕ) (s : State) (p : ℕ) → s.place ≤ o.window.end → Idle B p s.place →
+    pub tidied_elements : (line : ℕ) (l : ReadLine) → Tells d (Some (Read l)) line → (n index : ℕ) (s : State) (p : ℕ) → s.place ≤ o.window.end → Idle B p s.place →
         Tidied (At o.window.end) p (elements d B o line l n index s) (elements d B o line l n index s)
     unfolding elements
     tidied_elements line l ok zero index s p h i = passes (ends (i, h))
@@ -138,7 +138,7 @@ module _ (d : Description) (B : List Bool) where
     module _ (tidy plain : Objects)
         (objs : (line declared index : ℕ) (w : Window) (q p : ℕ) → declared_at d line ≡ declared → q ≤ w.end → w.end ≤ length B → Idle B p q →
         Tidied (At w.end) p (tidy line declared index w q) (plain line declared index w q)) where
-      pub tidied_objects : (line : ℕ) (l : UseLine) → Tells d (Use l) line → (n index : ℕ) (s : State) (p : ℕ) → s.place ≤ o.window.end → Idle B p s.place →
+      pub tidied_objects : (line : ℕ) (l : UseLine) → Tells d (Some (Use l)) line → (n index : ℕ) (s : State) (p : ℕ) → s.place ≤ o.window.end → Idle B p s.place →
           Tidied (At o.window.end) p (objects d B tidy o line l n index s) (objects d B plain o line l n index s)
       unfolding objects
       tidied_objects line l ok zero index s p h i = passes (ends (i, h))
@@ -149,7 +149,7 @@ module _ (d : Description) (B : List Bool) where
           Tidied (At o.window.end) p (enough_objects d B line l index s) (enough_objects d B line l index s)
       tidied_enough line l index s p h i = tidied_attempt line s.place _ _ _ λ u e. passes (ends (i, h))
 
-      pub tidied_to_end : (line : ℕ) (l : UseLine) → Tells d (Use l) line → (n index : ℕ) (s : State) (p : ℕ) → s.place ≤ o.window.end → Idle B p s.place →
+      pub tidied_to_end : (line : ℕ) (l : UseLine) → Tells d (Some (Use l)) line → (n index : ℕ) (s : State) (p : ℕ) → s.place ≤ o.window.end → Idle B p s.place →
           Tidied (At o.window.end) p (objects_to_end d B tidy o line l n index s) (objects_to_end d B plain o line l n index s)
       unfolding objects_to_end
       tidied_to_end line l ok zero index s p h i = tidied_enough line l index s p h i
@@ -157,7 +157,7 @@ module _ (d : Description) (B : List Bool) where
           tidied_pick (leb o.window.end (next_multiple 8 s.place)) _ _ _ _ (tidied_enough line l index s p h i)
           (tidied_bind _ _ (λ t p m i. tidied_to_end line l ok n (suc index) (after_object l t s) p m i) (objs line l.class index o.window s.place p ok h fits i))
 
-      pub tidied_used : (line : ℕ) (l : UseLine) → Tells d (Use l) line → (k : ℕ) (s : State) (p : ℕ) → s.place ≤ o.window.end → Idle B p s.place →
+      pub tidied_used : (line : ℕ) (l : UseLine) → Tells d (Some (Use l)) line → (k : ℕ) (s : State) (p : ℕ) → s.place ≤ o.window.end → Idle B p s.place →
           Tidied (At o.window.end) p (used d B tidy o line l k s) (used d B plain o line l k s)
       unfolding used
       tidied_used line l ok zero s p h i = passes (tidied_to_end line l ok l.most 0 s p h i)

@@ -1,5 +1,5 @@
 -- An item's own bits, from the description and the item alone.
-use Rattle.std.specs.Prelude.{ℕ, zero, suc, ◌+◌, ◌-◌, ◌/◌, ◌%◌, ◌^◌, ◌<◌, ◌≤◌, Bool, false, cond, List, [], ◌++◌, length, take, replicate, ℤ, pos, negsuc, Ok, Err, nat_lt, unsigned_abs}
+use Rattle.std.specs.Prelude.{ℕ, zero, suc, ◌+◌, ◌-◌, ◌/◌, ◌%◌, ◌^◌, ◌<◌, ◌≤◌, Bool, false, cond, List, [], ◌++◌, length, take, replicate, ℤ, pos, negsuc, Ok, Err, nat_lt, unsigned_abs, Option, Some, None}
 use Rattle.records.specs.declared.records.Class.{Class}
 use Rattle.rules.specs.declared.items.Item.{Item}
 use Rattle.rules.specs.declared.items.Kind.{Kind}
@@ -12,7 +12,7 @@ use Rattle.table.specs.Description.{Description, class_at, line_at, map_at}
 use Rattle.rules.specs.Lookups.{greatest, map_output}
 use Rattle.rules.specs.Values.{same}
 use Rattle.records.specs.declared.statements.Statement.{Statement}
-use Rattle.records.specs.declared.statements.Statement.TheVariants.{Read, Assign, MapRead, Use, If, While, Unknown}
+use Rattle.records.specs.declared.statements.Statement.TheVariants.{Read, Assign, MapRead, Use, If, While}
 use Rattle.records.specs.Statements.{statement}
 
 -- a number in two's complement
@@ -51,14 +51,14 @@ unfoldable pub header_bits : Class → (greatest id size : ℕ) → List Bool
 header_bits c greatest id size = bits_of (id_width c) id ++ size_bits greatest size
 
 -- the bits of a value that a line reads; of a map the lowest index with that output
-unfoldable pub value_bits : Description → Statement → (value : ℤ) → (length : ℕ) → List Bool
-value_bits d (Read fields) v n = bits_of n (complement n v)
-value_bits d (Assign name node) v n = []
-value_bits d (MapRead m name) v n = bits_of (map_at d m).width (lowest_index (map_at d m).width (map_output d m) v)
-value_bits d (Use fields) v n = []
-value_bits d (If node first second) v n = []
-value_bits d (While node lines rounds) v n = []
-value_bits d Unknown v n = []
+unfoldable pub value_bits : Description → Option Statement → (value : ℤ) → (length : ℕ) → List Bool
+value_bits d (Some (Read fields)) v n = bits_of n (complement n v)
+value_bits d (Some (Assign name node)) v n = []
+value_bits d (Some (MapRead m name)) v n = bits_of (map_at d m).width (lowest_index (map_at d m).width (map_output d m) v)
+value_bits d (Some (Use fields)) v n = []
+value_bits d (Some (If node first second)) v n = []
+value_bits d (Some (While node lines rounds)) v n = []
+value_bits d None v n = []
 
 abbrev pub item_bits : Description → Kind → (line : ℕ) → (value : ℤ) → (length : ℕ) → List Bool
 item_bits d Value line v n = value_bits d (statement (line_at d line)) v n
@@ -78,14 +78,14 @@ unfoldable pub pending : Description → (L : ℕ) → Item → List Bool
 pending d L i = take L (replicate i.place false ++ (own_bits d i ++ replicate L false))
 
 -- an item whose numbers some reading could hand out, as far as they stand in its own bits
-unfoldable pub SensibleValue : Description → Statement → (value : ℤ) → (length : ℕ) → Type 0
-SensibleValue d (Read fields) v n = (n ≤ 32) × (complement n v < 2 ^ n)
-SensibleValue d (Assign name node) v n = ⊥
-SensibleValue d (MapRead m name) v n = lowest_index (map_at d m).width (map_output d m) v < 2 ^ (map_at d m).width
-SensibleValue d (Use fields) v n = ⊥
-SensibleValue d (If node first second) v n = ⊥
-SensibleValue d (While node lines rounds) v n = ⊥
-SensibleValue d Unknown v n = ⊥
+unfoldable pub SensibleValue : Description → Option Statement → (value : ℤ) → (length : ℕ) → Type 0
+SensibleValue d (Some (Read fields)) v n = (n ≤ 32) × (complement n v < 2 ^ n)
+SensibleValue d (Some (Assign name node)) v n = ⊥
+SensibleValue d (Some (MapRead m name)) v n = lowest_index (map_at d m).width (map_output d m) v < 2 ^ (map_at d m).width
+SensibleValue d (Some (Use fields)) v n = ⊥
+SensibleValue d (Some (If node first second)) v n = ⊥
+SensibleValue d (Some (While node lines rounds)) v n = ⊥
+SensibleValue d None v n = ⊥
 
 abbrev pub SensibleBy : Description → Kind → (line : ℕ) → (value : ℤ) → (length : ℕ) → Type 0
 SensibleBy d Value line v n = SensibleValue d (statement (line_at d line)) v n

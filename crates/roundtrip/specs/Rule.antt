@@ -51,7 +51,8 @@ RuleLaw =
     (d : Description) → PassesCheck d → Straight d → (L : ℕ) (is : List Item) (w : List Bool) →
     (PutDown d L is w → Written d L true is w) × (Written d L true is w → PutDown d L is w)
 
--- where all is put, the reading of what is written and then 0 hands out just the items and ends, and so does the tidy reading
+-- where all is put, the reading of what is written and then 0 hands out just the items and ends, and so does the tidy
+-- reading
 pub record Finishes (d : Description) (L : ℕ) (is : List Item) (w : List Bool) : Type 0 where
   pub same : items (reading d (finished d L w)) ≡ is
   pub ends : outcome (reading d (finished d L w)) ≡ ended
@@ -63,7 +64,8 @@ FinishLaw =
     (d : Description) → PassesCheck d → Straight d → (L : ℕ) (is : List Item) (w : List Bool) → PutDown d L is w → AllPut d L is w →
     Finishes d L is w
 
--- what is written by an older description, a newer one that has grown from it reads as just the items that were put, and ends
+-- what is written by an older description, a newer one that has grown from it reads as just the items that were put,
+-- and ends
 abbrev pub NewerLaw : Type 0
 NewerLaw =
     (older newer : Description) → PassesCheck older → PassesCheck newer → Grown older newer → Straight older →

@@ -1,8 +1,8 @@
 -- The law of writing: what can be put next, what is then appended, and what a reading makes of it.
-use Rattle.std.specs.Prelude.{◌≡◌, ℕ, ◌-◌, ◌≤◌, Bool, false, List, [], ◌∷◌, ◌++◌, length, drop, replicate}
+use Rattle.std.specs.Prelude.{◌≡◌, ℕ, ◌-◌, ◌≤◌, Bool, false, List, [], ◌∷◌, ◌++◌, length, drop, replicate, Option, Some, None}
 use Rattle.rules.specs.declared.items.Item.{Item}
 use Rattle.records.specs.declared.statements.Statement.{Statement}
-use Rattle.records.specs.declared.statements.Statement.TheVariants.{Read, Assign, MapRead, Use, If, While, Unknown}
+use Rattle.records.specs.declared.statements.Statement.TheVariants.{Read, Assign, MapRead, Use, If, While}
 use Rattle.records.specs.Statements.{statement}
 use Rattle.rules.specs.Growth.{Begins}
 use Rattle.rules.specs.Trace.{items, outcome, ended}
@@ -13,14 +13,14 @@ use Rattle.rules.specs.Trace.{Run}
 use Rattle.roundtrip.specs.Standing.{head, gives, Fam, Fits, Leads, Stands}
 
 -- above 0 where a line looks ahead
-abbrev pub looks_ahead : Statement → ℕ
-looks_ahead (Read fields) = fields.ahead
-looks_ahead (Assign name node) = 0
-looks_ahead (MapRead m name) = 0
-looks_ahead (Use fields) = 0
-looks_ahead (If node first second) = 0
-looks_ahead (While node lines rounds) = 0
-looks_ahead Unknown = 0
+abbrev pub looks_ahead : Option Statement → ℕ
+looks_ahead (Some (Read fields)) = fields.ahead
+looks_ahead (Some (Assign name node)) = 0
+looks_ahead (Some (MapRead m name)) = 0
+looks_ahead (Some (Use fields)) = 0
+looks_ahead (Some (If node first second)) = 0
+looks_ahead (Some (While node lines rounds)) = 0
+looks_ahead None = 0
 
 -- no line looks ahead
 abbrev pub Straight : Description → Type 0

@@ -1,5 +1,5 @@
 -- Of a run of hidden lines nothing is left, and it writes only new names where it stands in an older object.
-use Rattle.std.proofs.Common.{◌≡◌, ℕ, zero, suc, ◌<◌, ◌≤◌, Bool, false, cond, T, eqb, leb, ◌⊎◌, List, [], ◌∷◌, length, ℤ, ap, ◌∙◌, inl, inr, arith}
+use Rattle.std.proofs.Common.{◌≡◌, ℕ, zero, suc, ◌<◌, ◌≤◌, Bool, false, cond, T, eqb, leb, ◌⊎◌, List, [], ◌∷◌, length, ℤ, ap, ◌∙◌, inl, inr, arith, Option, Some}
 use Rattle.std.proofs.lemmas.Bool.{ne_eqb}
 use Rattle.checked.proofs.Sounds.{all_of}
 use Rattle.records.specs.Statements.{written}
@@ -25,14 +25,14 @@ use Rattle.rules.proofs.Same.{Each, each_all}
 
 module _ (older : Description) where
   -- a line that is hidden at a depth: below 0 by its number, and then it writes no older name
-  abbrev pub HiddenLine : ℕ → Statement → ℕ → Type 0
+  abbrev pub HiddenLine : ℕ → Option Statement → ℕ → Type 0
   HiddenLine k st line = (0 < k) ⊎ ((length older.lines < line) × ((written st ≡ 0) ⊎ (length older.names < written st)))
 
   -- the older names are as they were
   abbrev pub Kept : ℕ → Names → State → Type 0
   Kept k names s = (0 < k) ⊎ ((m : ℕ) → m ≤ length older.names → s.names m ≡ names m)
 
-  pub line_hidden : (k : ℕ) (st : Statement) (line : ℕ) → HiddenLine k st line → Hidden older k line
+  pub line_hidden : (k : ℕ) (st : Option Statement) (line : ℕ) → HiddenLine k st line → Hidden older k line
   line_hidden k st line (inl h) = inl h
   line_hidden k st line (inr h) = inr h.0
 
@@ -42,7 +42,7 @@ module _ (older : Description) where
   write_new (suc x) v names was (inl e) h m l = let y : ⊥ = omega arith in absurd y
   write_new (suc x) v names was (inr n) h m l = ap (λ b. cond b v (names m)) (ne_eqb m (suc x) (λ e. omega arith)) ∙ h m l
 
-  write_kept : (k : ℕ) (st : Statement) (line : ℕ) → HiddenLine k st line → (was : Names) (s : State) → Kept k was s → (p : ℕ) (v : ℤ) →
+  write_kept : (k : ℕ) (st : Option Statement) (line : ℕ) → HiddenLine k st line → (was : Names) (s : State) → Kept k was s → (p : ℕ) (v : ℤ) →
       Kept k was (record { place = p; names = write (written st) v s.names })
   write_kept k st line (inl h) was s kept p v = inl h
   write_kept k st line (inr h) was s (inl z) p v = inl z
@@ -53,46 +53,46 @@ module _ (older : Description) where
     abbrev pub BlankObjects : Objects → Type 0
     BlankObjects obj = (line declared index : ℕ) (w : Window) (p : ℕ) → Hidden older k line → Blank older (λ (t : State). Unit {0}) k k (obj line declared index w p)
 
-    blank_elements : (o : Object) (line : ℕ) (l : ReadLine) → HiddenLine k (Read l) line → (was : Names) (n index : ℕ) (s : State) → Kept k was s →
+    blank_elements : (o : Object) (line : ℕ) (l : ReadLine) → HiddenLine k (Some (Read l)) line → (was : Names) (n index : ℕ) (s : State) → Kept k was s →
         Blank older (Kept k was) k k (elements d bits o line l n index s)
     unfolding elements
     blank_elements o line l hid was zero index s kept = quiet (ends kept)
     blank_elements o line l hid was (suc n) index s kept =
-        blank_attempt older k line s.place (line_hidden k (Read l) line hid) _ _ λ g.
-        hidden (hide_value older k line (line_hidden k (Read l) line hid) o index g) (value_deeper older k o line index g)
-        (blank_elements o line l hid was n (suc index) (after_read l.name g s) (write_kept k (Read l) line hid was s kept g.after g.value))
+        blank_attempt older k line s.place (line_hidden k (Some (Read l)) line hid) _ _ λ g.
+        hidden (hide_value older k line (line_hidden k (Some (Read l)) line hid) o index g) (value_deeper older k o line index g)
+        (blank_elements o line l hid was n (suc index) (after_read l.name g s) (write_kept k (Some (Read l)) line hid was s kept g.after g.value))
 
     module _ (obj : Objects) (blank : BlankObjects obj) (o : Object) where
-      blank_objects : (line : ℕ) (l : UseLine) → HiddenLine k (Use l) line → (was : Names) (n index : ℕ) (s : State) → Kept k was s →
+      blank_objects : (line : ℕ) (l : UseLine) → HiddenLine k (Some (Use l)) line → (was : Names) (n index : ℕ) (s : State) → Kept k was s →
           Blank older (Kept k was) k k (objects d bits obj o line l n index s)
       unfolding objects
       blank_objects line l hid was zero index s kept = quiet (ends kept)
       blank_objects line l hid was (suc n) index s kept =
           blank_bind older _
-          (λ t u. blank_objects line l hid was n (suc index) (after_object l t s) (write_kept k (Use l) line hid was s kept t.place (t.names l.carried)))
-          (blank line l.class index o.window s.place (line_hidden k (Use l) line hid))
+          (λ t u. blank_objects line l hid was n (suc index) (after_object l t s) (write_kept k (Some (Use l)) line hid was s kept t.place (t.names l.carried)))
+          (blank line l.class index o.window s.place (line_hidden k (Some (Use l)) line hid))
 
-      blank_enough : (line : ℕ) (l : UseLine) → HiddenLine k (Use l) line → (was : Names) (index : ℕ) (s : State) → Kept k was s →
+      blank_enough : (line : ℕ) (l : UseLine) → HiddenLine k (Some (Use l)) line → (was : Names) (index : ℕ) (s : State) → Kept k was s →
           Blank older (Kept k was) k k (enough_objects d bits line l index s)
       blank_enough line l hid was index s kept =
-          blank_attempt older k line s.place (line_hidden k (Use l) line hid) _ _ λ u. quiet (ends kept)
+          blank_attempt older k line s.place (line_hidden k (Some (Use l)) line hid) _ _ λ u. quiet (ends kept)
 
-      blank_objects_to_end : (line : ℕ) (l : UseLine) → HiddenLine k (Use l) line → (was : Names) (n index : ℕ) (s : State) → Kept k was s →
+      blank_objects_to_end : (line : ℕ) (l : UseLine) → HiddenLine k (Some (Use l)) line → (was : Names) (n index : ℕ) (s : State) → Kept k was s →
           Blank older (Kept k was) k k (objects_to_end d bits obj o line l n index s)
       unfolding objects_to_end
       blank_objects_to_end line l hid was zero index s kept = blank_enough line l hid was index s kept
       blank_objects_to_end line l hid was (suc n) index s kept =
           blank_pick older (leb o.window.end (next_multiple 8 s.place)) _ _ (λ t. blank_enough line l hid was index s kept) λ t.
           blank_bind older _
-          (λ t u. blank_objects_to_end line l hid was n (suc index) (after_object l t s) (write_kept k (Use l) line hid was s kept t.place (t.names l.carried)))
-          (blank line l.class index o.window s.place (line_hidden k (Use l) line hid))
+          (λ t u. blank_objects_to_end line l hid was n (suc index) (after_object l t s) (write_kept k (Some (Use l)) line hid was s kept t.place (t.names l.carried)))
+          (blank line l.class index o.window s.place (line_hidden k (Some (Use l)) line hid))
 
-      blank_used : (line : ℕ) (l : UseLine) → HiddenLine k (Use l) line → (was : Names) (n : ℕ) (s : State) → Kept k was s →
+      blank_used : (line : ℕ) (l : UseLine) → HiddenLine k (Some (Use l)) line → (was : Names) (n : ℕ) (s : State) → Kept k was s →
           Blank older (Kept k was) k k (used d bits obj o line l n s)
       unfolding used
       blank_used line l hid was zero s kept = quiet (blank_objects_to_end line l hid was l.most 0 s kept)
       blank_used line l hid was (suc n) s kept =
-          blank_attempt older k line s.place (line_hidden k (Use l) line hid) _ _ λ m. quiet (blank_objects line l hid was m 0 s kept)
+          blank_attempt older k line s.place (line_hidden k (Some (Use l)) line hid) _ _ λ m. quiet (blank_objects line l hid was m 0 s kept)
 
       blank_rounds : (test : State → Check ℤ) (body : State → Run State) (line : ℕ) → Hidden older k line → (was : Names) →
           ((s : State) → Kept k was s → Blank older (Kept k was) k k (body s)) → (n : ℕ) (s : State) → Kept k was s →
@@ -108,24 +108,24 @@ module _ (older : Description) where
       unfolding run
       blank_run was finish e s kept = quiet (ends kept)
       blank_run was (read line l c) e s kept =
-          blank_attempt older k line s.place (line_hidden k (Read l) line e.0) _ _ λ n.
+          blank_attempt older k line s.place (line_hidden k (Some (Read l)) line e.0) _ _ λ n.
           quiet (blank_bind older _ (λ t kept'. blank_run was c e.1 t kept') (blank_elements o line l e.0 was n 0 s kept))
       blank_run was (assign line name node c) e s kept =
-          blank_attempt older k line s.place (line_hidden k (Assign name node) line e.0) _ _ λ v.
-          quiet (blank_run was c e.1 _ (write_kept k (Assign name node) line e.0 was s kept s.place v))
+          blank_attempt older k line s.place (line_hidden k (Some (Assign name node)) line e.0) _ _ λ v.
+          quiet (blank_run was c e.1 _ (write_kept k (Some (Assign name node)) line e.0 was s kept s.place v))
       blank_run was (map_read line m name c) e s kept =
-          blank_attempt older k line s.place (line_hidden k (MapRead m name) line e.0) _ _ λ g.
-          hidden (hide_value older k line (line_hidden k (MapRead m name) line e.0) o 0 g) (value_deeper older k o line 0 g)
-          (blank_run was c e.1 (after_read name g s) (write_kept k (MapRead m name) line e.0 was s kept g.after g.value))
+          blank_attempt older k line s.place (line_hidden k (Some (MapRead m name)) line e.0) _ _ λ g.
+          hidden (hide_value older k line (line_hidden k (Some (MapRead m name)) line e.0) o 0 g) (value_deeper older k o line 0 g)
+          (blank_run was c e.1 (after_read name g s) (write_kept k (Some (MapRead m name)) line e.0 was s kept g.after g.value))
       blank_run was (use_of line l c) e s kept =
           blank_bind older _ (λ t kept'. blank_run was c e.1 t kept') (blank_used line l e.0 was l.count s kept)
       blank_run was (branch line node a b c) e s kept =
-          blank_attempt older k line s.place (line_hidden k (If node 0 0) line e.0.2) _ _ λ v.
+          blank_attempt older k line s.place (line_hidden k (Some (If node 0 0)) line e.0.2) _ _ λ v.
           quiet (blank_bind older _ (λ t kept'. blank_run was c e.3 t kept')
           (blank_pick older (is_zero v) _ _ (λ t. blank_run was b e.2 s kept) (λ t. blank_run was a e.1 s kept)))
       blank_run was (while line node most b c) e s kept =
           blank_bind older _ (λ t kept'. blank_run was c e.2 t kept')
-          (blank_rounds _ _ line (line_hidden k (While node 0 most) line e.0.1) was (λ t kept'. blank_run was b e.1 t kept') most s kept)
+          (blank_rounds _ _ line (line_hidden k (Some (While node 0 most)) line e.0.1) was (λ t kept'. blank_run was b e.1 t kept') most s kept)
 
   -- an extension of which nothing is left at a depth; if it is the object's own, the object is expandable
   abbrev pub HiddenExtension : Description → ℕ → Object → (greatest : ℕ) → Extension → Type 0

@@ -1,14 +1,6 @@
--- A test as a type: what it then equals, and the two ways that it leads.
-use Rattle.std.proofs.Common.{◌≡◌, Bool, true, false, not, T, refl}
+-- A test as a type, and the two ways that it leads.
+use Rattle.std.proofs.Common.{Bool, true, false, not, T}
 use Rattle.rules.specs.Checks.{pick}
-
-pub true_of : (b : Bool) → T b → b ≡ true
-true_of true t = refl
-true_of false t = absurd t
-
-pub false_of : (b : Bool) → T (not b) → b ≡ false
-false_of true t = absurd t
-false_of false t = refl
 
 -- one of two ways, with what the test says
 pub decide : {P : Type 0} (b : Bool) → (T b → P) → (T (not b) → P) → P

@@ -9,7 +9,7 @@ use Rattle.std.specs.List.{list_all}
 use Rattle.std.proofs.Math.Facts.{and_yes, yes_and, or_yes}
 use Rattle.std.proofs.lemmas.List.Elements.{All-get_or}
 use Rattle.std.proofs.lemmas.List.Sums.{AllPass-from_list_all}
-use Rattle.rules.proofs.Booleans.{true_of}
+use Rattle.checked.proofs.Booleans.{true_of}
 use Rattle.rules.specs.Growth.{Grown}
 use Rattle.rules.specs.Growth.{class_fields, name_fields, extension_fields, line_fields, node_fields, map_fields, row_fields, same_numbers, stands, member_grown, line_grown, unchanged, grown, GrownMeans}
 use Rattle.checked.specs.Sound.{All}

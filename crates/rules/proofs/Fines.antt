@@ -2,7 +2,7 @@
 use Rattle.std.proofs.Common.{◌≡◌, ℕ, zero, suc, ◌+◌, ◌<◌, ◌≤◌, Bool, true, false, cond, not, ◌&&◌, eqb, ltb, leb, ◌⊎◌, List, [], ◌∷◌, length, get_or, ℤ, Ok, Err, sym, refl, ap, subst, inl, inr, arith, lit≤, eqb→eq, lt→ltb, T_not, Some, None, Option}
 use Rattle.std.proofs.lemmas.Bool.{cond_both}
 use Rattle.rules.proofs.Ranges.{Good, good}
-use Rattle.rules.proofs.Entries.{class_there}
+use Rattle.table.proofs.Entries.{class_there}
 use Rattle.rules.proofs.Booleans.{pick_is}
 use Rattle.rules.specs.declared.faults.ReadingFault.{ReadingFault}
 use Rattle.rules.specs.declared.faults.Failure.{Failure}
@@ -25,7 +25,7 @@ use Rattle.rules.specs.declared.steps.Header.{Header}
 use Rattle.rules.specs.declared.steps.Window.{Window}
 use Rattle.rules.specs.Steps.{enough, aligned, taken, natural, bounded, element, mapped, size_bytes, sized, header, at_end, next_multiple}
 use Rattle.records.specs.declared.statements.Statement.{Statement}
-use Rattle.records.specs.declared.statements.Statement.TheVariants.{Read, Assign, MapRead, Use, If, While, Unknown}
+use Rattle.records.specs.declared.statements.Statement.TheVariants.{Read, Assign, MapRead, Use, If, While}
 use Rattle.records.specs.Statements.{statement}
 use Rattle.records.specs.declared.statements.UseLine.{UseLine}
 use Rattle.records.specs.declared.statements.ReadLine.{ReadLine}
@@ -173,7 +173,7 @@ module _ (d : Description) (ra : Ranked d) (bits : List Bool) where
   abbrev GoObjects : ℕ → Objects → Type 0
   GoObjects rank obj = (line u index : ℕ) (w : Window) (p : ℕ) → Below d rank u → Goes (obj line u index w p)
 
-  goes_elements : (o : Object) (line : ℕ) (l : ReadLine) (rank : ℕ) → LineRanked d rank (Read l) → (n index : ℕ) (s : State) → Goes (elements d bits o line l n index s)
+  goes_elements : (o : Object) (line : ℕ) (l : ReadLine) (rank : ℕ) → LineRanked d rank (Some (Read l)) → (n index : ℕ) (s : State) → Goes (elements d bits o line l n index s)
   unfolding elements
   goes_elements o line l rank ok zero index s = passes ends
   goes_elements o line l rank ok (suc n) index s =
@@ -182,7 +182,7 @@ module _ (d : Description) (ra : Ranked d) (bits : List Bool) where
       λ g. gives (goes_elements o line l rank ok n (suc index) _)
 
   module _ (obj : Objects) (rank : ℕ) (go : GoObjects rank obj) (o : Object) where
-    goes_objects : (line : ℕ) (l : UseLine) → LineRanked d rank (Use l) → (n index : ℕ) (s : State) → Goes (objects d bits obj o line l n index s)
+    goes_objects : (line : ℕ) (l : UseLine) → LineRanked d rank (Some (Use l)) → (n index : ℕ) (s : State) → Goes (objects d bits obj o line l n index s)
     unfolding objects
     goes_objects line l ok zero index s = passes ends
     goes_objects line l ok (suc n) index s =
@@ -191,14 +191,14 @@ module _ (d : Description) (ra : Ranked d) (bits : List Bool) where
     goes_enough : (line : ℕ) (l : UseLine) (index : ℕ) (s : State) → Goes (enough_objects d bits line l index s)
     goes_enough line l index s = goes_attempt _ _ _ (fine_ensure _ TooFew (lit≤ tt, lit≤ tt)) λ u. passes ends
 
-    goes_to_end : (line : ℕ) (l : UseLine) → LineRanked d rank (Use l) → (n index : ℕ) (s : State) → Goes (objects_to_end d bits obj o line l n index s)
+    goes_to_end : (line : ℕ) (l : UseLine) → LineRanked d rank (Some (Use l)) → (n index : ℕ) (s : State) → Goes (objects_to_end d bits obj o line l n index s)
     unfolding objects_to_end
     goes_to_end line l ok zero index s = goes_enough line l index s
     goes_to_end line l ok (suc n) index s =
         pick_is Goes (leb o.window.end (next_multiple 8 s.place)) _ _ (λ t. goes_enough line l index s) λ t.
         goes_bind _ (λ t. goes_to_end line l ok n (suc index) _) (go line l.class index o.window s.place ok.1)
 
-    goes_used : (line : ℕ) (l : UseLine) → LineRanked d rank (Use l) → (k : ℕ) → k ≤ length d.nodes → (s : State) → Goes (used d bits obj o line l k s)
+    goes_used : (line : ℕ) (l : UseLine) → LineRanked d rank (Some (Use l)) → (k : ℕ) → k ≤ length d.nodes → (s : State) → Goes (used d bits obj o line l k s)
     unfolding used
     goes_used line l ok zero y s = passes (goes_to_end line l ok l.most 0 s)
     goes_used line l ok (suc k) y s =
@@ -212,7 +212,7 @@ module _ (d : Description) (ra : Ranked d) (bits : List Bool) where
     goes_rounds test body line te bo (suc n) s =
         goes_attempt _ _ _ (te s) λ v. passes (pick_is Goes (is_zero v) _ _ (λ t. ends) (λ t. goes_bind _ (goes_rounds test body line te bo n) (bo s)))
 
-    abbrev Fit : Statement → ℕ → Type 0
+    abbrev Fit : Option Statement → ℕ → Type 0
     Fit st line = LineRanked d rank st
 
     goes_run : (c : Code) → Each Fit c → (s : State) → Goes (run d bits obj o c s)
@@ -247,14 +247,14 @@ module _ (d : Description) (ra : Ranked d) (bits : List Bool) where
         members = λ m t e. let z = b.members m t e in omega arith;
       }
 
-  ranked_more : (r q : ℕ) → r ≤ q → (st : Statement) → LineRanked d r st → LineRanked d q st
-  ranked_more r q h (Read fields) x = x
-  ranked_more r q h (Assign name node) x = x
-  ranked_more r q h (MapRead map name) x = x
-  ranked_more r q h (Use fields) x = (x.0, below_more r q fields.class h x.1)
-  ranked_more r q h (If node first second) x = x
-  ranked_more r q h (While node lines rounds) x = x
-  ranked_more r q h Unknown x = x
+  ranked_more : (r q : ℕ) → r ≤ q → (st : Option Statement) → LineRanked d r st → LineRanked d q st
+  ranked_more r q h (Some (Read fields)) x = x
+  ranked_more r q h (Some (Assign name node)) x = x
+  ranked_more r q h (Some (MapRead map name)) x = x
+  ranked_more r q h (Some (Use fields)) x = (x.0, below_more r q fields.class h x.1)
+  ranked_more r q h (Some (If node first second)) x = x
+  ranked_more r q h (Some (While node lines rounds)) x = x
+  ranked_more r q h None x = x
 
   -- a class whose objects use only what is below a rank, with its base
   abbrev Within : ℕ → ℕ → Type 0

@@ -12,7 +12,6 @@ pub mod Objects
 pub mod Parts
 pub mod Fines
 pub mod ByTests
-pub mod Entries
 pub mod Facts
 pub mod Orderly
 pub mod Ranges

@@ -4,7 +4,8 @@ use Rattle.std.proofs.Math.Facts.{and_yes, or_yes}
 use Rattle.std.proofs.Math.Bool.{or-true}
 use Rattle.std.proofs.lemmas.Bool.{not_from_false, ne_eqb}
 use Rattle.rules.proofs.Facts.{ensure_ok}
-use Rattle.rules.proofs.Booleans.{true_of, decide}
+use Rattle.checked.proofs.Booleans.{true_of}
+use Rattle.rules.proofs.Booleans.{decide}
 use lib.Dec.{eqb_refl}
 use Rattle.records.specs.declared.records.Class.{Class}
 use Rattle.rules.specs.declared.faults.Failure.{Failure}
@@ -109,8 +110,8 @@ module _ (older : Description) (tidy : Bool) where
 module _ (older newer : Description) (gr : Grown older newer) (so : Sound older) (sn : Sound newer) (bits : List Bool) (tidy : Bool) where
   module _ (new_obj old_obj : Objects) (objs : FollowObjects older tidy new_obj old_obj)
       (blank : (k line declared index : ℕ) (w : Window) (p : ℕ) → Hidden older k line → Blank older (λ (t : State). Unit {0}) k k (new_obj line declared index w p)) where
-    -- what comes after an object's content, by the newer and by the older: from the same place, or wherever the object is expandable;
-    -- and after new extensions, of which the older has none
+    -- what comes after an object's content, by the newer and by the older: from the same place, or wherever the
+    -- object is expandable; and after new extensions, of which the older has none
     record Closes (S : State → State → Type 0) (g : ℕ) (new_close old_close : State → Run State) (o : Object) : Type 0 where
       both : (s t : State) → Agree older s.names t.names → (0 < g) ⊎ (s.place ≡ t.place) → Follows older tidy S zero (new_close s) (old_close t)
       rest : (ys : List Extension) → All (HiddenExtension older newer 0 o g) ys → (p : ℕ) (new old : Names) → Agree older new old →

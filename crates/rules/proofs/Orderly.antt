@@ -1,6 +1,6 @@
 -- Every reading is orderly.
 use Rattle.records.specs.declared.statements.Statement.TheVariants.{Read, Use}
-use Rattle.std.proofs.Common.{◌≡◌, ℕ, zero, suc, ◌+◌, ◌*◌, ◌%◌, ◌^◌, ◌<◌, ◌≤◌, Bool, true, false, not, T, eqb, leb, List, [], ◌∷◌, length, ℤ, Ok, Err, sym, refl, ap, subst, arith}
+use Rattle.std.proofs.Common.{◌≡◌, ℕ, zero, suc, ◌+◌, ◌*◌, ◌%◌, ◌^◌, ◌<◌, ◌≤◌, Bool, true, false, not, T, eqb, leb, List, [], ◌∷◌, length, ℤ, Ok, Err, sym, refl, ap, subst, arith, Option, Some}
 use Rattle.records.specs.declared.records.Extension.{Extension}
 use Rattle.records.specs.declared.statements.Statement.{Statement}
 use Rattle.records.specs.Statements.{statement}
@@ -25,7 +25,7 @@ use Rattle.rules.proofs.Facts.{aligned_facts, element_facts, mapped_facts, heade
 use Rattle.rules.proofs.WholeBytes.{bytes}
 use Rattle.rules.proofs.Same.{Each, code_each}
 
-pub use_declared : (d : Description) (line : ℕ) (l : UseLine) → statement (line_at d line) ≡ Use l → declared_at d line ≡ l.class
+pub use_declared : (d : Description) (line : ℕ) (l : UseLine) → statement (line_at d line) ≡ Some (Use l) → declared_at d line ≡ l.class
 unfolding entry
 use_declared d zero l e = let y : ◌≡◌ {A = ℕ} 0 1 = cc in let z : ⊥ = omega arith in absurd z
 use_declared d (suc n) l e = ap used_by e
@@ -73,7 +73,7 @@ module _ (d : Description) where
     moves_pick false f g x y = y tt
 
   -- a line is what the code says
-  abbrev Tells : Statement → ℕ → Type 0
+  abbrev Tells : Option Statement → ℕ → Type 0
   Tells st line = statement (line_at d line) ≡ st
 
   code_tells : (at n : ℕ) → Each Tells (code d.lines at n)
@@ -84,7 +84,7 @@ module _ (d : Description) where
     abbrev Inside : State → Run State → Type 0
     Inside s t = Moves d place_of (top ∷ around) o.window.end (top ∷ around) s.place t
 
-    moves_elements : (line : ℕ) (l : ReadLine) → Tells (Read l) line → (n index : ℕ) (s : State) → s.place ≤ o.window.end →
+    moves_elements : (line : ℕ) (l : ReadLine) → Tells (Some (Read l)) line → (n index : ℕ) (s : State) → s.place ≤ o.window.end →
         Inside s (elements d bits o line l n index s)
     unfolding elements
     moves_elements line l tells zero index s h = passes (ends (omega arith) h)
@@ -98,7 +98,7 @@ module _ (d : Description) where
     module _ (obj : Objects)
         (objs : (line declared index : ℕ) (p : ℕ) → declared_at d line ≡ declared → p ≤ o.window.end →
         Moves d place_of (top ∷ around) o.window.end (top ∷ around) p (obj line declared index o.window p)) where
-      moves_objects : (line : ℕ) (l : UseLine) → Tells (Use l) line → (n index : ℕ) (s : State) → s.place ≤ o.window.end →
+      moves_objects : (line : ℕ) (l : UseLine) → Tells (Some (Use l)) line → (n index : ℕ) (s : State) → s.place ≤ o.window.end →
           Inside s (objects d bits obj o line l n index s)
       unfolding objects
       moves_objects line l tells zero index s h = passes (ends (omega arith) h)
@@ -109,7 +109,7 @@ module _ (d : Description) where
       moves_enough : (line : ℕ) (l : UseLine) (index : ℕ) (s : State) → s.place ≤ o.window.end → Inside s (enough_objects d bits line l index s)
       moves_enough line l index s h = moves_attempt line s.place (omega arith) h _ _ λ u e. passes (ends (omega arith) h)
 
-      moves_to_end : (line : ℕ) (l : UseLine) → Tells (Use l) line → (n index : ℕ) (s : State) → s.place ≤ o.window.end →
+      moves_to_end : (line : ℕ) (l : UseLine) → Tells (Some (Use l)) line → (n index : ℕ) (s : State) → s.place ≤ o.window.end →
           Inside s (objects_to_end d bits obj o line l n index s)
       unfolding objects_to_end
       moves_to_end line l tells zero index s h = moves_enough line l index s h
@@ -118,7 +118,7 @@ module _ (d : Description) where
           moves_bind _ (λ t q. moves_to_end line l tells n (suc index) (after_object l t s) q)
           (objs line l.class index s.place (use_declared d line l tells) h)
 
-      moves_used : (line : ℕ) (l : UseLine) → Tells (Use l) line → (k : ℕ) (s : State) → s.place ≤ o.window.end → Inside s (used d bits obj o line l k s)
+      moves_used : (line : ℕ) (l : UseLine) → Tells (Some (Use l)) line → (k : ℕ) (s : State) → s.place ≤ o.window.end → Inside s (used d bits obj o line l k s)
       unfolding used
       moves_used line l tells zero s h = passes (moves_to_end line l tells l.most 0 s h)
       moves_used line l tells (suc k) s h = moves_attempt line s.place (omega arith) h _ _ λ n e. passes (moves_objects line l tells n 0 s h)

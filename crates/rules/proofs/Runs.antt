@@ -1,6 +1,6 @@
 -- A run of an older line by the newer description follows its run by the older one.
 use Rattle.records.specs.declared.statements.Statement.TheVariants.{Read, Use}
-use Rattle.std.proofs.Common.{◌≡◌, ℕ, zero, suc, ◌+◌, ◌<◌, ◌≤◌, Bool, cond, T, eqb, leb, ◌⊎◌, List, length, ℤ, sym, refl, ap, ◌∙◌, subst, inl, inr, arith}
+use Rattle.std.proofs.Common.{◌≡◌, ℕ, zero, suc, ◌+◌, ◌<◌, ◌≤◌, Bool, cond, T, eqb, leb, ◌⊎◌, List, length, ℤ, sym, refl, ap, ◌∙◌, subst, inl, inr, arith, Option, Some}
 use Rattle.rules.specs.Trace.{Run}
 use Rattle.rules.specs.Checks.{Check}
 use Rattle.records.specs.Classes.{is_base}
@@ -35,14 +35,14 @@ module _ (older : Description) where
   abbrev pub Left : ℕ → State → State → Type 0
   Left declared s t = (s.place ≡ t.place) × (Agree s.names t.names ⊎ (T (is_base (class_at older declared)) × (0 < greatest older declared)))
 
-  abbrev pub OldLine : Statement → ℕ → Type 0
+  abbrev pub OldLine : Option Statement → ℕ → Type 0
   OldLine st line = (line ≤ length older.lines) × LineSound older st
 
   write_agree : (x : ℕ) (v u : ℤ) (new old : Names) → v ≡ u → Agree new old → Agree (write x v new) (write x u old)
   write_agree zero v u new old e h = h
   write_agree (suc x) v u new old e h = λ m l i. cond (eqb m (suc x)) (e i) (h m l i)
 
-  carried_agree : (l : UseLine) → LineSound older (Use l) → (s t : State) → Left l.class s t → (new old : Names) → Agree new old →
+  carried_agree : (l : UseLine) → LineSound older (Some (Use l)) → (s t : State) → Left l.class s t → (new old : Names) → Agree new old →
       Agree (write l.receiving (s.names l.carried) new) (write l.receiving (t.names l.carried) old)
   carried_agree l ok s t left new old h = go left.1
     where
@@ -76,7 +76,7 @@ module _ (older newer : Description) (gr : Grown older newer) (so : Sound older)
     counted_same p new old h zero l = refl
     counted_same p new old h (suc k) l = ap (natural 65535) (valued_same p new old h (suc k) l)
 
-    follow_elements : (line : ℕ) (l : ReadLine) → OldLine older (Read l) line → (n index p : ℕ) (new old : Names) → Agree older new old →
+    follow_elements : (line : ℕ) (l : ReadLine) → OldLine older (Some (Read l)) line → (n index p : ℕ) (new old : Names) → Agree older new old →
         Follows older tidy (Same older) zero (elements newer bits o line l n index (at p new)) (elements older bits o line l n index (at p old))
     unfolding elements
     follow_elements line l ok zero index p new old h = both_pass older tidy (ends (refl, h))
@@ -88,7 +88,7 @@ module _ (older newer : Description) (gr : Grown older newer) (so : Sound older)
         (follow_elements line l ok n (suc index) g.after _ _ (write_agree older l.name g.value g.value new old refl h))
 
     module _ (new_obj old_obj : Objects) (objs : FollowObjects older tidy new_obj old_obj) where
-      follow_objects : (line : ℕ) (l : UseLine) → OldLine older (Use l) line → (n index p : ℕ) (new old : Names) → Agree older new old →
+      follow_objects : (line : ℕ) (l : UseLine) → OldLine older (Some (Use l)) line → (n index p : ℕ) (new old : Names) → Agree older new old →
           Follows older tidy (Same older) zero (objects newer bits new_obj o line l n index (at p new)) (objects older bits old_obj o line l n index (at p old))
       unfolding objects
       follow_objects line l ok zero index p new old h = both_pass older tidy (ends (refl, h))
@@ -100,11 +100,11 @@ module _ (older newer : Description) (gr : Grown older newer) (so : Sound older)
           (after_object l s (at p new)) (after_object l t (at p old)) (left.0, carried_agree older l ok.1 s t left new old h))
           (objs line l.class index o.window p ok.0 ok.1.0)
 
-      follow_enough : (line : ℕ) (l : UseLine) → OldLine older (Use l) line → (index p : ℕ) (new old : Names) → Agree older new old →
+      follow_enough : (line : ℕ) (l : UseLine) → OldLine older (Some (Use l)) line → (index p : ℕ) (new old : Names) → Agree older new old →
           Follows older tidy (Same older) zero (enough_objects newer bits line l index (at p new)) (enough_objects older bits line l index (at p old))
       follow_enough line l ok index p new old h = follows_attempt older tidy line p ok.0 _ _ _ _ refl λ u. both_pass older tidy (ends (refl, h))
 
-      follow_objects_to_end : (line : ℕ) (l : UseLine) → OldLine older (Use l) line → (n index p : ℕ) (new old : Names) → Agree older new old →
+      follow_objects_to_end : (line : ℕ) (l : UseLine) → OldLine older (Some (Use l)) line → (n index p : ℕ) (new old : Names) → Agree older new old →
           Follows older tidy (Same older) zero (objects_to_end newer bits new_obj o line l n index (at p new)) (objects_to_end older bits old_obj o line l n index (at p old))
       unfolding objects_to_end
       follow_objects_to_end line l ok zero index p new old h = follow_enough line l ok index p new old h
@@ -117,7 +117,7 @@ module _ (older newer : Description) (gr : Grown older newer) (so : Sound older)
           (after_object l s (at p new)) (after_object l t (at p old)) (left.0, carried_agree older l ok.1 s t left new old h))
           (objs line l.class index o.window p ok.0 ok.1.0)
 
-      follow_used : (line : ℕ) (l : UseLine) → OldLine older (Use l) line → (k : ℕ) → k ≤ length older.nodes → (p : ℕ) (new old : Names) → Agree older new old →
+      follow_used : (line : ℕ) (l : UseLine) → OldLine older (Some (Use l)) line → (k : ℕ) → k ≤ length older.nodes → (p : ℕ) (new old : Names) → Agree older new old →
           Follows older tidy (Same older) zero (used newer bits new_obj o line l k (at p new)) (used older bits old_obj o line l k (at p old))
       unfolding used
       follow_used line l ok zero b p new old h = both_pass older tidy (follow_objects_to_end line l ok l.most 0 p new old h)

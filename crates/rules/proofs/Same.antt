@@ -11,7 +11,7 @@ use Rattle.rules.specs.declared.terms.Term.TheVariants.{Constant, Named, OwnSize
 use Rattle.rules.specs.Terms.{term}
 use Rattle.rules.specs.Values.{Names, term_value, before, value_within, value, of_node, applied}
 use Rattle.records.specs.declared.statements.Statement.{Statement}
-use Rattle.records.specs.declared.statements.Statement.TheVariants.{Read, Assign, MapRead, Use, If, While, Unknown}
+use Rattle.records.specs.declared.statements.Statement.TheVariants.{Read, Assign, MapRead, Use, If, While}
 use Rattle.records.specs.Statements.{statement}
 use Rattle.rules.specs.Code.{Code, finish, read, assign, map_read, use_of, branch, while, coded, code_within, code}
 use Rattle.rules.specs.Growth.{Begins, Grown}
@@ -31,36 +31,36 @@ pub before_same : (k : ℕ) (f g : ℕ → Check ℤ) → ((j : ℕ) → j < k �
 before_same k f g h j = pick_same (ltb j k) _ _ _ _ (λ t. h j (ltb→lt j k t)) (λ t. refl)
 
 -- code all of whose lines have a property
-abbrev pub Each : (Statement → ℕ → Type 0) → Code → Type 0
+abbrev pub Each : (Option Statement → ℕ → Type 0) → Code → Type 0
 Each P finish = Unit {0}
-Each P (read line l k) = P (Read l) line × Each P k
-Each P (assign line name node k) = P (Assign name node) line × Each P k
-Each P (map_read line m name k) = P (MapRead m name) line × Each P k
-Each P (use_of line l k) = P (Use l) line × Each P k
-Each P (branch line node a b k) = ((first : ℕ) × (second : ℕ) × P (If node first second) line) × Each P a × Each P b × Each P k
-Each P (while line node most b k) = ((lines : ℕ) × P (While node lines most) line) × Each P b × Each P k
+Each P (read line l k) = P (Some (Read l)) line × Each P k
+Each P (assign line name node k) = P (Some (Assign name node)) line × Each P k
+Each P (map_read line m name k) = P (Some (MapRead m name)) line × Each P k
+Each P (use_of line l k) = P (Some (Use l)) line × Each P k
+Each P (branch line node a b k) = ((first : ℕ) × (second : ℕ) × P (Some (If node first second)) line) × Each P a × Each P b × Each P k
+Each P (while line node most b k) = ((lines : ℕ) × P (Some (While node lines most)) line) × Each P b × Each P k
 
-pub each_all : (P : Statement → ℕ → Type 0) → ((st : Statement) (line : ℕ) → P st line) → (c : Code) → Each P c
+pub each_all : (P : Option Statement → ℕ → Type 0) → ((st : Option Statement) (line : ℕ) → P st line) → (c : Code) → Each P c
 each_all P h finish = tt
-each_all P h (read line l k) = (h (Read l) line, each_all P h k)
-each_all P h (assign line name node k) = (h (Assign name node) line, each_all P h k)
-each_all P h (map_read line m name k) = (h (MapRead m name) line, each_all P h k)
-each_all P h (use_of line l k) = (h (Use l) line, each_all P h k)
-each_all P h (branch line node a b k) = ((0, 0, h (If node 0 0) line), each_all P h a, each_all P h b, each_all P h k)
-each_all P h (while line node most b k) = ((0, h (While node 0 most) line), each_all P h b, each_all P h k)
+each_all P h (read line l k) = (h (Some (Read l)) line, each_all P h k)
+each_all P h (assign line name node k) = (h (Some (Assign name node)) line, each_all P h k)
+each_all P h (map_read line m name k) = (h (Some (MapRead m name)) line, each_all P h k)
+each_all P h (use_of line l k) = (h (Some (Use l)) line, each_all P h k)
+each_all P h (branch line node a b k) = ((0, 0, h (Some (If node 0 0)) line), each_all P h a, each_all P h b, each_all P h k)
+each_all P h (while line node most b k) = ((0, h (Some (While node 0 most)) line), each_all P h b, each_all P h k)
 
-module _ (P : Statement → ℕ → Type 0) where
-  coded_each : (st : Statement) (at k : ℕ) (block : ℕ → ℕ → Code) → P st at →
+module _ (P : Option Statement → ℕ → Type 0) where
+  coded_each : (st : Option Statement) (at k : ℕ) (block : ℕ → ℕ → Code) → P st at →
       ((m n : ℕ) → at < m → m + n ≤ at + suc k → Each P (block m n)) → Each P (coded st at k block)
   unfolding coded
-  coded_each (Read fields) at k block p h = (p, h (suc at) k (omega arith) (omega arith))
-  coded_each (Assign name node) at k block p h = (p, h (suc at) k (omega arith) (omega arith))
-  coded_each (MapRead map name) at k block p h = (p, h (suc at) k (omega arith) (omega arith))
-  coded_each (Use fields) at k block p h = (p, h (suc at) k (omega arith) (omega arith))
-  coded_each (If node first second) at k block p h =
+  coded_each (Some (Read fields)) at k block p h = (p, h (suc at) k (omega arith) (omega arith))
+  coded_each (Some (Assign name node)) at k block p h = (p, h (suc at) k (omega arith) (omega arith))
+  coded_each (Some (MapRead map name)) at k block p h = (p, h (suc at) k (omega arith) (omega arith))
+  coded_each (Some (Use fields)) at k block p h = (p, h (suc at) k (omega arith) (omega arith))
+  coded_each (Some (If node first second)) at k block p h =
       ((first, second, p), h _ _ (omega arith) (omega arith), h _ _ (omega arith) (omega arith), h _ _ (omega arith) (omega arith))
-  coded_each (While node lines rounds) at k block p h = ((lines, p), h _ _ (omega arith) (omega arith), h _ _ (omega arith) (omega arith))
-  coded_each Unknown at k block p h = h (suc at) k (omega arith) (omega arith)
+  coded_each (Some (While node lines rounds)) at k block p h = ((lines, p), h _ _ (omega arith) (omega arith), h _ _ (omega arith) (omega arith))
+  coded_each None at k block p h = h (suc at) k (omega arith) (omega arith)
 
   pub code_each : (lines : List Line) (low high : ℕ) →
       ((at : ℕ) → low ≤ at → at < high → P (statement (entry lines at no_line)) at) →
@@ -73,26 +73,26 @@ module _ (P : Statement → ℕ → Type 0) where
       (p at x (omega arith))
       (λ m n u v. code_each lines low high p f m n (omega arith) (omega arith))
 
-pub coded_same : (st : Statement) (at k : ℕ) (block block' : ℕ → ℕ → Code) →
+pub coded_same : (st : Option Statement) (at k : ℕ) (block block' : ℕ → ℕ → Code) →
     ((m n : ℕ) → at < m → m + n ≤ at + suc k → block m n ≡ block' m n) → coded st at k block ≡ coded st at k block'
 unfolding coded
-coded_same (Read fields) at k block block' h = ap (read at fields) (h (suc at) k (omega arith) (omega arith))
-coded_same (Assign name node) at k block block' h = ap (assign at name node) (h (suc at) k (omega arith) (omega arith))
-coded_same (MapRead map name) at k block block' h = ap (map_read at map name) (h (suc at) k (omega arith) (omega arith))
-coded_same (Use fields) at k block block' h = ap (use_of at fields) (h (suc at) k (omega arith) (omega arith))
-coded_same (If node first second) at k block block' h =
+coded_same (Some (Read fields)) at k block block' h = ap (read at fields) (h (suc at) k (omega arith) (omega arith))
+coded_same (Some (Assign name node)) at k block block' h = ap (assign at name node) (h (suc at) k (omega arith) (omega arith))
+coded_same (Some (MapRead map name)) at k block block' h = ap (map_read at map name) (h (suc at) k (omega arith) (omega arith))
+coded_same (Some (Use fields)) at k block block' h = ap (use_of at fields) (h (suc at) k (omega arith) (omega arith))
+coded_same (Some (If node first second)) at k block block' h =
     let m = min first k in
     let n = min second (k - m) in
     let a = h (suc at) m (omega arith) (omega arith) in
     let b = h (suc at + m) n (omega arith) (omega arith) in
     let c = h (suc at + m + n) (k - m - n) (omega arith) (omega arith) in
     λ x. branch at node (a x) (b x) (c x)
-coded_same (While node lines rounds) at k block block' h =
+coded_same (Some (While node lines rounds)) at k block block' h =
     let m = min lines k in
     let a = h (suc at) m (omega arith) (omega arith) in
     let b = h (suc at + m) (k - m) (omega arith) (omega arith) in
     λ x. while at node rounds (a x) (b x)
-coded_same Unknown at k block block' h = h (suc at) k (omega arith) (omega arith)
+coded_same None at k block block' h = h (suc at) k (omega arith) (omega arith)
 
 module _ (older newer : Description) (gr : Grown older newer) where
   pub class_same : (c : ℕ) → c ≤ length older.classes → class_at newer c ≡ class_at older c

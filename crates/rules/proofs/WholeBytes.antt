@@ -7,7 +7,7 @@ use Rattle.table.specs.Description.{class_at}
 use Rattle.places.specs.Classes.{ids_fit, plain_wrong, base_wrong, member_wrong, class_wrong}
 use Rattle.checked.proofs.Held.{faultless}
 use Rattle.rules.specs.Order.{BytesLaw}
-use Rattle.rules.proofs.Entries.{class_there}
+use Rattle.table.proofs.Entries.{class_there}
 
 -- the width of a base with a greatest size, where nothing is wrong with it
 base_bytes : (c : Class) → base_wrong c ≡ false → 0 < c.greatest → c.width % 8 ≡ 0

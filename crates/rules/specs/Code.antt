@@ -1,8 +1,8 @@
 -- The lines of a block as a tree: each statement has its line's number, its fields and what follows it.
-use Rattle.std.specs.Prelude.{◌≡◌, ℕ, zero, suc, ◌+◌, ◌-◌, min, List}
+use Rattle.std.specs.Prelude.{◌≡◌, ℕ, zero, suc, ◌+◌, ◌-◌, min, List, Option, Some, None}
 use Rattle.records.specs.declared.records.Line.{Line}
 use Rattle.records.specs.declared.statements.Statement.{Statement}
-use Rattle.records.specs.declared.statements.Statement.TheVariants.{Read, Assign, MapRead, Use, If, While, Unknown}
+use Rattle.records.specs.declared.statements.Statement.TheVariants.{Read, Assign, MapRead, Use, If, While}
 use Rattle.records.specs.Statements.{statement}
 use Rattle.records.specs.declared.statements.ReadLine.{ReadLine}
 use Rattle.records.specs.declared.statements.UseLine.{UseLine}
@@ -24,21 +24,21 @@ pub data Code : Type 0 where
   -- the block as long as the node is true, at most so many rounds; then the rest
   while : (line node rounds : ℕ) → (block rest : Code) → Code
 
--- the code of a statement, which is line `at`, with k more lines in its block; `block` is the code of so many lines from a line on.
--- Blocks follow their line directly, and end where what holds them ends.
-unfoldable pub coded : Statement → (at k : ℕ) (block : ℕ → ℕ → Code) → Code
-coded (Read fields) at k block = read at fields (block (suc at) k)
-coded (Assign name node) at k block = assign at name node (block (suc at) k)
-coded (MapRead map name) at k block = map_read at map name (block (suc at) k)
-coded (Use fields) at k block = use_of at fields (block (suc at) k)
-coded (If node first second) at k block =
+-- the code of a statement, which is line `at`, with k more lines in its block; `block` is the code of so many lines
+-- from a line on. Blocks follow their line directly, and end where what holds them ends.
+unfoldable pub coded : Option Statement → (at k : ℕ) (block : ℕ → ℕ → Code) → Code
+coded (Some (Read fields)) at k block = read at fields (block (suc at) k)
+coded (Some (Assign name node)) at k block = assign at name node (block (suc at) k)
+coded (Some (MapRead map name)) at k block = map_read at map name (block (suc at) k)
+coded (Some (Use fields)) at k block = use_of at fields (block (suc at) k)
+coded (Some (If node first second)) at k block =
     let m = min first k in
     let n = min second (k - m) in
     branch at node (block (suc at) m) (block (suc at + m) n) (block (suc at + m + n) (k - m - n))
-coded (While node lines rounds) at k block =
+coded (Some (While node lines rounds)) at k block =
     let m = min lines k in
     while at node rounds (block (suc at) m) (block (suc at + m) (k - m))
-coded Unknown at k block = block (suc at) k
+coded None at k block = block (suc at) k
 
 -- the same, where so many lines may follow one another
 unfoldable pub code_within : (fuel : ℕ) (lines : List Line) (at count : ℕ) → Code

@@ -1,5 +1,5 @@
--- An older and a newer description: when the newer has grown from the older, what is struck of the newer's items, and how the two
--- readings compare.
+-- An older and a newer description: when the newer has grown from the older, what is struck of the newer's items, and
+-- how the two readings compare.
 use Rattle.std.specs.Prelude.{◌≡◌, ℕ, suc, pred, ◌<◌, ◌≤◌, Bool, true, false, cond, not, ◌&&◌, ◌||◌, T, ◌⊎◌, List, [], ◌∷◌, ◌++◌, length, drop, ◌==◌, nat_le, nat_lt}
 use Rattle.std.specs.List.{list_all}
 use Rattle.records.specs.declared.records.Class.{Class}
@@ -71,7 +71,8 @@ module _ (older : Description) where
   abbrev pub struck : List Item → List Item
   struck is = strike 0 is
 
-  -- a fault at a depth inside what is struck lies inside what the older lacks: it names a new line, or comes inside an object whose inside is struck
+  -- a fault at a depth inside what is struck lies inside what the older lacks: it names a new line, or comes inside
+  -- an object whose inside is struck
   abbrev pub lacks : ℕ → ReadingFault → Bool
   lacks k f = new_line f.line || nat_lt 0 k
 
@@ -87,8 +88,9 @@ Begins {A} xs ys = (zs : List A) × (ys ≡ xs ++ zs)
 abbrev pub Shorter : List Item → List Item → Type 0
 Shorter xs ys = (z : Item) × (zs : List Item) × (ys ≡ xs ++ (z ∷ zs))
 
--- how a newer run compares with an older one, from a depth on: unless the newer's fault lies inside what the older lacks, the outcomes
--- are equal and the struck items of the newer are the older's; else they are a strictly shorter beginning of the older's
+-- how a newer run compares with an older one, from a depth on: unless the newer's fault lies inside what the older
+-- lacks, the outcomes are equal and the struck items of the newer are the older's; else they are a strictly shorter
+-- beginning of the older's
 pub record Compares (older : Description) {A B : Type 0} (k : ℕ) (new : Run A) (old : Run B) : Type 0 where
   pub agree : lacked older k (items new) (outcome new) ≡ false → (outcome new ≡ outcome old) × (strike older k (items new) ≡ items old)
   pub short : lacked older k (items new) (outcome new) ≡ true → Shorter (strike older k (items new)) (items old)
@@ -203,8 +205,8 @@ DepthLaw =
 
 -- what the newer makes of any bits against the older, and what it has handed out so far
 pub record ReadsOn (older newer : Description) : Type 0 where
-  -- unless the newer's fault lies inside what the older lacks, outcomes are equal and the struck items are the older's; else they are a
-  -- strictly shorter beginning of the older's
+  -- unless the newer's fault lies inside what the older lacks, outcomes are equal and the struck items are the
+  -- older's; else they are a strictly shorter beginning of the older's
   pub whole : (bits : List Bool) → Compares older 0 (reading newer bits) (reading older bits)
   -- of the items handed out so far, struck, and the older's, one is a beginning of the other
   pub parts :

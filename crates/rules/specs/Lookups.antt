@@ -28,7 +28,8 @@ unfoldable pub first_member : List Class → (base id : ℕ) → ℕ
 first_member [] base id = 0
 first_member (c ∷ cs) base id = cond (member_with base id c) 1 (one_later (first_member cs base id))
 
--- the class of an object: of a family, the base unless it is abstract, or a member, that has the id; 0 if the id is unknown
+-- the class of an object: of a family, the base unless it is abstract, or a member, that has the id; 0 if the id is
+-- unknown
 unfoldable pub object_class : Description → (declared id : ℕ) → ℕ
 object_class d declared id =
     cond (not (is_base (class_at d declared))) declared

@@ -1,7 +1,7 @@
 -- What holds of the items of every reading: they nest, their places never go back, and each fits its bits.
-use Rattle.std.specs.Prelude.{◌≡◌, ℕ, zero, suc, ◌+◌, ◌-◌, ◌%◌, ◌^◌, ◌<◌, ◌≤◌, Bool, true, false, List, [], ◌∷◌, length, ℤ, pos, negsuc, Ok}
+use Rattle.std.specs.Prelude.{◌≡◌, ℕ, zero, suc, ◌+◌, ◌-◌, ◌%◌, ◌^◌, ◌<◌, ◌≤◌, Bool, true, false, List, [], ◌∷◌, length, ℤ, pos, negsuc, Ok, Option, Some, None}
 use Rattle.records.specs.declared.statements.Statement.{Statement}
-use Rattle.records.specs.declared.statements.Statement.TheVariants.{Read, Assign, MapRead, Use, If, While, Unknown}
+use Rattle.records.specs.declared.statements.Statement.TheVariants.{Read, Assign, MapRead, Use, If, While}
 use Rattle.records.specs.Statements.{statement}
 use Rattle.table.specs.Description.{Description, class_at, line_at, map_at}
 use Rattle.rules.specs.declared.items.Item.{Item}
@@ -17,14 +17,14 @@ use Rattle.checked.specs.Sound.{All}
 use Rattle.rules.specs.Passed.{PassesCheck}
 
 -- the class that a line uses, 0 if none; line 0 is the top object's
-abbrev pub used_by : Statement → ℕ
-used_by (Read fields) = 0
-used_by (Assign name node) = 0
-used_by (MapRead map name) = 0
-used_by (Use fields) = fields.class
-used_by (If node first second) = 0
-used_by (While node lines rounds) = 0
-used_by Unknown = 0
+abbrev pub used_by : Option Statement → ℕ
+used_by (Some (Read fields)) = 0
+used_by (Some (Assign name node)) = 0
+used_by (Some (MapRead map name)) = 0
+used_by (Some (Use fields)) = fields.class
+used_by (Some (If node first second)) = 0
+used_by (Some (While node lines rounds)) = 0
+used_by None = 0
 
 abbrev pub declared_at : Description → (line : ℕ) → ℕ
 declared_at d zero = d.top
@@ -42,14 +42,14 @@ WithinBits true n (pos k) = k < 2 ^ (n - 1)
 WithinBits true n (negsuc k) = k < 2 ^ (n - 1)
 
 -- a value that a line reads lies within its bits; that of a map is the output at some index of the map's width
-abbrev pub ValueFits : Description → Statement → ℤ → (length : ℕ) → Type 0
-ValueFits d (Read fields) v n = (n ≤ 32) × WithinBits fields.signed n v
-ValueFits d (Assign name node) v n = ⊥
-ValueFits d (MapRead map name) v n = (n ≡ (map_at d map).width) × (index : ℕ) × (index < 2 ^ n) × (map_output d map index ≡ Ok v)
-ValueFits d (Use fields) v n = ⊥
-ValueFits d (If node first second) v n = ⊥
-ValueFits d (While node lines rounds) v n = ⊥
-ValueFits d Unknown v n = ⊥
+abbrev pub ValueFits : Description → Option Statement → ℤ → (length : ℕ) → Type 0
+ValueFits d (Some (Read fields)) v n = (n ≤ 32) × WithinBits fields.signed n v
+ValueFits d (Some (Assign name node)) v n = ⊥
+ValueFits d (Some (MapRead map name)) v n = (n ≡ (map_at d map).width) × (index : ℕ) × (index < 2 ^ n) × (map_output d map index ≡ Ok v)
+ValueFits d (Some (Use fields)) v n = ⊥
+ValueFits d (Some (If node first second)) v n = ⊥
+ValueFits d (Some (While node lines rounds)) v n = ⊥
+ValueFits d None v n = ⊥
 
 -- an expandable object of a checked description begins and ends on a byte boundary
 abbrev pub OnByte : Description → (line place : ℕ) → Type 0
@@ -72,9 +72,10 @@ extent Value i = i.length
 extent Open i = 0
 extent Close i = 0
 
--- A run that stands at a place with some objects open, the innermost first, and goes on up to an end: what it hands out fits, its places
--- never go back and never pass the end, at most 16 objects are open, a value's class is its object's, and a close repeats the innermost
--- open's line, class and index. Where it is done, the objects open are those of `home`, and the place is the one that `at` gives.
+-- A run that stands at a place with some objects open, the innermost first, and goes on up to an end: what it hands
+-- out fits, its places never go back and never pass the end, at most 16 objects are open, a value's class is its
+-- object's, and a close repeats the innermost open's line, class and index. Where it is done, the objects open are
+-- those of `home`, and the place is the one that `at` gives.
 module _ (d : Description) where
   pub data Moves {A : Type 0} (at : A → ℕ) (home : List Item) (end : ℕ) : (around : List Item) (place : ℕ) → Run A → Type 0 where
     ends : {p : ℕ} {a : A} → p ≤ at a → at a ≤ end → Moves at home end home p (done a)

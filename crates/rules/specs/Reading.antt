@@ -61,7 +61,8 @@ abbrev pub close_item : (class line index place : ℕ) → Item
 close_item class line index place =
     record { kind = Close; line = line; class = class; index = index; value = pos 0; place = place; length = 0 }
 
--- what an object is to a line: its line, declared class and index, the window around it and the place, and how it is left
+-- what an object is to a line: its line, declared class and index, the window around it and the place, and how it is
+-- left
 abbrev pub Objects : Type 0
 Objects = (line declared index : ℕ) → Window → ℕ → Run State
 
@@ -106,7 +107,8 @@ module _ (d : Description) (bits : List Bool) where
   used obj o line l (suc k) s =
       attempt line s.place (natural 65535 (valued o s (suc k))) λ n. pass (objects obj o line l n 0 s)
 
-  -- the rounds of a while, of which at most n more may follow; its test is worked out before each, and once more after the last
+  -- the rounds of a while, of which at most n more may follow; its test is worked out before each, and once more
+  -- after the last
   unfoldable pub rounds : (test : State → Check ℤ) (body : State → Run State) (line : ℕ) → ℕ → State → Run State
   rounds test body line zero s =
       attempt line s.place (test s) λ v. attempt line s.place (ensure (is_zero v) TooManyRounds) λ _. pass (done s)
@@ -136,7 +138,8 @@ module _ (d : Description) (bits : List Bool) where
   abbrev pub stretch : Objects → Object → (first number : ℕ) → State → Run State
   stretch obj o first number s = run obj o (code d.lines first number) s
 
-  -- the extensions of a class, in table order: before each the reading aligns to 8, and if that is the object's end, the rest are dropped
+  -- the extensions of a class, in table order: before each the reading aligns to 8, and if that is the object's end,
+  -- the rest are dropped
   unfoldable pub extensions : Objects → Object → List Extension → State → Run State
   extensions obj o [] s = done s
   extensions obj o (e ∷ es) s =
@@ -147,7 +150,8 @@ module _ (d : Description) (bits : List Bool) where
       (λ _. bind (stretch obj o e.first e.number (moved q s)) (extensions obj o es))))
       (λ _. pass (extensions obj o es s))
 
-  -- what an object holds: the lines of its class's base, its own, and its extensions; of an unknown id it is passed over
+  -- what an object holds: the lines of its class's base, its own, and its extensions; of an unknown id it is passed
+  -- over
   unfoldable pub content : Objects → Object → (class : ℕ) → State → Run State
   content obj o zero s = done s
   content obj o (suc n) s =

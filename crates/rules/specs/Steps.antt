@@ -82,8 +82,8 @@ size_bytes bits w (suc n) high p =
     then (taken bits w 8 p) λ byte.
     pick (nat_lt byte 128) (λ _. Ok (high * 128 + byte, p + 8)) (λ _. size_bytes bits w n (high * 128 + byte % 128) (p + 8))
 
--- the size of an object whose greatest size is given, and the place after it: at most four bytes, not above the greatest,
--- and the object within the window
+-- the size of an object whose greatest size is given, and the place after it: at most four bytes, not above the
+-- greatest, and the object within the window
 unfoldable pub sized : List Bool → Window → (greatest p : ℕ) → Check (ℕ × ℕ)
 sized bits w zero p = Ok (0, p)
 sized bits w (suc g) p =
@@ -96,7 +96,8 @@ sized bits w (suc g) p =
 abbrev pub id_width : Class → ℕ
 id_width c = cond (is_base c) c.width 0
 
--- the beginning of an object of a declared class: aligned to 8 if expandable, the id in a family, the size if expandable
+-- the beginning of an object of a declared class: aligned to 8 if expandable, the id in a family, the size if
+-- expandable
 unfoldable pub header : List Bool → Window → (declared : Class) → (greatest p : ℕ) → Check Header
 header bits w c greatest p =
     then (aligned bits w (cond (greatest == 0) 0 8) p) λ q.

@@ -1,5 +1,6 @@
--- A tidy reading: it goes on like a reading as long as the bits are such as a writing makes, which knows every id and leaves at most
--- seven bits, all 0, before the end of an expandable object; else it stops. It serves the laws of writing only.
+-- A tidy reading: it goes on like a reading as long as the bits are such as a writing makes, which knows every id and
+-- leaves at most seven bits, all 0, before the end of an expandable object; else it stops. It serves the laws of
+-- writing only.
 use Rattle.std.specs.Prelude.{◌≡◌, ℕ, zero, suc, ◌-◌, Bool, true, false, not, ◌&&◌, ◌||◌, List, Ok, ◌==◌}
 use Rattle.table.specs.Description.{Description, class_at}
 use Rattle.bits.specs.Bits.{number, part}
@@ -46,7 +47,8 @@ module _ (d : Description) (bits : List Bool) where
   abbrev pub tidy_reading : Run (Unit {0})
   tidy_reading = reading_by true
 
--- a reading that need not be tidy is the reading, and a tidy reading that ends has handed out what the reading hands out
+-- a reading that need not be tidy is the reading, and a tidy reading that ends has handed out what the reading hands
+-- out
 pub record TidyLaw : Type 0 where
   pub plain : (d : Description) (bits : List Bool) → reading_by d bits false ≡ reading d bits
   pub same :

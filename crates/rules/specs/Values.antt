@@ -46,8 +46,8 @@ shifted by x y = cond (int_lt y (pos 0) || int_lt (pos 31) y) (Err BadOperand) (
 abbrev pub bitwise : (ℕ → ℕ → ℕ) → ℤ → ℤ → Worked
 bitwise by x y = cond (int_lt x (pos 0) || int_lt y (pos 0)) (Err BadOperand) (ranged (pos (by (unsigned_abs x) (unsigned_abs y))))
 
--- an operator of two values: division drops the fraction, a remainder has the dividend's sign, a shift to the right rounds down,
--- and anything but 0 is true
+-- an operator of two values: division drops the fraction, a remainder has the dividend's sign, a shift to the right
+-- rounds down, and anything but 0 is true
 abbrev pub applied : Operator → ℤ → ℤ → Worked
 applied Multiply x y = ranged (x *ℤ y)
 applied Divide x y = divided int_div x y
@@ -80,7 +80,8 @@ of_node k (Err cause) = Err (record { cause = cause; node = k })
 abbrev pub Names : Type 0
 Names = ℕ → ℤ
 
--- node k, which is a term or none, from the names' values, the own object's size and the values of earlier nodes: left first, always both
+-- node k, which is a term or none, from the names' values, the own object's size and the values of earlier nodes:
+-- left first, always both
 unfoldable pub term_value : (k : ℕ) → Option Term → Names → (size : ℕ) → (earlier : ℕ → Check ℤ) → Check ℤ
 term_value k (Some (Constant v)) names size earlier = Ok (pos v)
 term_value k (Some (Named n)) names size earlier = Ok (names n)

@@ -78,7 +78,8 @@ impl Failure {
     }
 }
 
-// How a reading is refused: the cause, the line, the node of an operator's failure, and the place where the failing element began.
+// How a reading is refused: the cause, the line, the node of an operator's failure, and the place where the failing
+// element began.
 #[derive(Clone, Copy, PartialEq, Eq, Debug)]
 pub struct ReadingFault {
     pub cause: ReadingCause,

@@ -36,8 +36,9 @@ pub fn faults_known() -> bool
     true
 }
 
-// The items of a reading nest, at most 16 objects are open, places never go back nor pass the window's end, values lie within
-// their bits, expandable objects begin and end on byte boundaries, and nothing but the source's bits counts.
+// The items of a reading nest, at most 16 objects are open, places never go back nor pass the window's end, values
+// lie within their bits, expandable objects begin and end on byte boundaries, and nothing but the source's bits
+// counts.
 pub fn order_law() -> bool
     ensures answer { result ≡ true }
     ensures items { OrderLaw }

@@ -35,10 +35,6 @@ pub fn id_width(declared: Class) -> u16
 pub fn output(row: Row) -> i64
     ensures { result ≡ output row }
 {
-    let number = i64::from(row.high) * 65536 + i64::from(row.low);
-    if number >= 2147483648 {
-        number - 4294967296
-    } else {
-        number
-    }
+    let number = u32::from(row.high) * 65536 + u32::from(row.low);
+    i64::from(number.cast_signed())
 }

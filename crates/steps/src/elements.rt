@@ -1,7 +1,7 @@
 ghost use Rattle.std.specs.Prelude.{◌≡◌, ◌+◌, ◌^◌, ◌<◌, ◌≤◌, ℤ, Bool, cond, pos, IfOk, if◌then◌else◌, nat_eq};
 ghost use Rattle.rules.specs.Steps.{element, bounded, signed};
 ghost use Rattle.values.specs.Scopes.{value_in};
-ghost use Rattle.steps.specs.Tests.{Answers};
+ghost use Rattle.table.specs.Tests.{Answers};
 
 use crate::numbers::{natural, signed};
 use crate::view::View;

@@ -6,35 +6,34 @@ ghost use Rattle.rules.specs.Steps.{mapped};
 use crate::view::View;
 use bits::source::Source;
 use records::records::{Map, Row};
+use records::stretches::Stretch;
 use rules::faults::{Failure, ReadingCause};
 use rules::lookups::output;
 use rules::steps::Got;
 use table::record::record_at;
 
-// The output of the row with an index, among `number` rows from `first` on. A loop by number: a row past the table counts as
-// one whose index is 0, so a chain over the rows that are there would not do.
-pub fn find_row(rows: &[Row], first: u16, number: u16, index: u64) -> Result<i64, Failure>
-    ensures { (d : Description) → d.rows ≡ rows.now → result ≡ find_row d first number index }
+// The output of the row with an index, among the rows of a stretch. By number, since a row past the table counts as
+// one whose index is 0.
+pub fn find_row(rows: &[Row], stretch: Stretch, index: u64) -> Result<i64, Failure>
+    ensures { (d : Description) → d.rows ≡ rows.now → result ≡ find_row d stretch.first stretch.number index }
 {
-    for i in 0..number as usize {
-        let row = record_at(rows, first as usize + i);
-        if u64::from(row.index) == index {
-            return Ok(output(row));
-        }
-    }
-    Err(ReadingCause::NoSuchIndex.into())
+    (0..stretch.number as usize)
+        .map(|i| record_at(rows, stretch.first as usize + i))
+        .find(|row| u64::from(row.index) == index)
+        .map(output)
+        .ok_or(ReadingCause::NoSuchIndex.into())
 }
 
 impl<S: Source> View<'_, S> {
     // A map read: the index, and its row's output.
     pub fn map_read(&self, rows: &[Row], map: Map, p: u32) -> Result<Got, Failure>
-        requires width { map.width ≤ 16 }
+        requires width { map.width ≤ 32 }
         ensures value { (d : Description) → d.rows ≡ rows.now → result ≡ mapped (S.bits self.now.source.now) self.now.window map.width (find_row d map.first map.number) p }
         ensures bound { IfOk result (λ g. (p ≤ g.after) × (g.after ≤ self.now.window.end)) }
     {
         let length = u32::from(map.width);
         let index = self.taken(length, p)?;
-        let value = find_row(rows, map.first, map.number, index)?;
+        let value = find_row(rows, Stretch::from(map), index)?;
         Ok(Got {
             value,
             place: p,

@@ -1,3 +1,4 @@
+pub mod Entries
 mod Files
 mod Rows
 pub mod Scans

@@ -1,13 +1,7 @@
 -- The steps of a search and of a count.
-use Rattle.std.proofs.Common.{◌≡◌, ℕ, zero, suc, ◌+◌, ◌-◌, ◌<◌, ◌≤◌, Bool, true, false, cond, List, length, get_or, Some, None, Option, sym, refl, ap, ◌∙◌, inl, inr, add-zero, add-suc, add-one, arith}
+use Rattle.std.proofs.Common.{◌≡◌, ℕ, zero, suc, ◌+◌, ◌-◌, ◌<◌, ◌≤◌, Bool, true, false, cond, Some, None, Option, sym, refl, ap, ◌∙◌, inl, inr, add-zero, add-suc, add-one, arith}
 use Rattle.std.proofs.lemmas.Bool.Decides.{leb_tells}
-use Rattle.std.proofs.lemmas.List.{get_or_past, get_or_read}
 use Rattle.table.specs.First.{or_else, when, is_some, first_upto, some_upto, count_upto}
-use Rattle.table.specs.Description.{entry}
-
-pub first_none : (p : ℕ → Bool) → first_upto p 0 ≡ None
-unfolding first_upto
-first_none p = refl
 
 first_more : (p : ℕ → Bool) (i : ℕ) → first_upto p (i + 1) ≡ or_else (first_upto p i) (when (p (i + 1)) (i + 1))
 unfolding first_upto
@@ -17,9 +11,6 @@ stays : (p : ℕ → Bool) (n x : ℕ) → first_upto p n ≡ Some x → (k : �
 unfolding first_upto
 stays p n x e zero = rw add-zero e
 stays p n x e (suc k) = rw (add-suc, stays p n x e k)
-
-pub first_passed : (p : ℕ → Bool) (i : ℕ) → first_upto p i ≡ None → false ≡ p (i + 1) → first_upto p (i + 1) ≡ None
-first_passed p i e h = first_more p i ∙ rw (e, ← h)
 
 pub first_found : (p : ℕ → Bool) (i count : ℕ) → i < count → first_upto p i ≡ None → true ≡ p (i + 1) → Some (i + 1) ≡ first_upto p count
 first_found p i count l e h =
@@ -34,12 +25,6 @@ count_none p = refl
 pub count_more : (p : ℕ → Bool) (i : ℕ) → count_upto p (i + 1) ≡ count_upto p i + cond (p (i + 1)) 1 0
 unfolding count_upto
 count_more p i = rw add-one
-
-pub count_passed : (p : ℕ → Bool) (i f n : ℕ) → f ≡ count_upto p i → true ≡ p (i + 1) → n ≡ f + 1 → n ≡ count_upto p (i + 1)
-count_passed p i f n e h m = m ∙ rw (count_more p i, ← h, e)
-
-pub count_left : (p : ℕ → Bool) (i f n : ℕ) → f ≡ count_upto p i → false ≡ p (i + 1) → n ≡ f → n ≡ count_upto p (i + 1)
-count_left p i f n e h m = m ∙ rw (count_more p i, ← h, e, add-zero)
 
 -- Where none passes, and where two tests agree.
 none_joined : (o : Option ℕ) (b : Bool) (m : ℕ) → o ≡ None → b ≡ false → or_else o (when b m) ≡ None
@@ -71,18 +56,3 @@ no_some p (suc n) e u a b =
       | inl t ↦ no_some p n k.0 u a t.1
       | inr t ↦ let q : u ≡ suc n = omega (arith, t.1) in ap p q ∙ k.1
     ]
-
--- Look-ups.
-pub entry_none : {A : Type 0} (xs : List A) (n : ℕ) (none : A) → length xs < n → none ≡ entry xs n none
-unfolding entry
-entry_none xs zero none h = refl
-entry_none xs (suc n) none h = sym (get_or_past xs n none (omega arith))
-
-pub entry_zero : {A : Type 0} (xs : List A) (n : ℕ) (none : A) → n ≡ 0 → none ≡ entry xs n none
-unfolding entry
-entry_zero xs n none h = rw h
-
-pub entry_some : {A : Type 0} (xs : List A) (n : ℕ) (none x : A) → 0 < n → n ≤ length xs → x ≡ get_or xs (n - 1) x → x ≡ entry xs n none
-unfolding entry
-entry_some xs zero none x p q e = absurd (omega arith)
-entry_some xs (suc n) none x p q e = let k : suc n - 1 ≡ n = omega arith in get_or_read xs n x (omega arith) (rw k at e) none

@@ -1,5 +1,5 @@
 -- A description: the top class and seven tables of records, counted from 1; 0 says none. Look-ups are total.
-use Rattle.std.specs.Prelude.{ℕ, zero, suc, List, length, vec_items, slice_index_or}
+use Rattle.std.specs.Prelude.{ℕ, zero, suc, List, length, vec_items, slice_index_or, Option}
 use Rattle.records.specs.Statements.{statement}
 use Rattle.records.specs.declared.counts.Counts.{Counts}
 use Rattle.records.specs.declared.statements.Statement.{Statement}
@@ -73,7 +73,7 @@ abbrev pub row_at : Description → ℕ → Row
 row_at d n = entry d.rows n no_row
 
 -- a line with its fields by name
-unfoldable pub statement_at : Description → ℕ → Statement
+unfoldable pub statement_at : Description → ℕ → Option Statement
 statement_at d n = statement (line_at d n)
 
 -- how many records each table has

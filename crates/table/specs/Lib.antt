@@ -4,4 +4,5 @@ pub mod First
 pub mod Kinds
 pub mod Limits
 pub mod Loading
+pub mod Tests
 pub mod Words

@@ -1,6 +1,6 @@
 ghost use Rattle.std.specs.Prelude.{◌≡◌, ◌≤◌, true, length, IfOk};
 ghost use Rattle.table.specs.Description.{description};
-ghost use Rattle.table.specs.Loading.{has_mark, has_version, has_counts, counts_fit, counts_at, file_length, file_fault, description_at, loaded, Loads};
+ghost use Rattle.table.specs.Loading.{has_mark, has_version, has_counts, counts_fit, counts_at, names_from, extensions_from, lines_from, nodes_from, maps_from, rows_from, file_length, file_fault, description_at, loaded, Loads};
 
 use crate::loaded::Loaded;
 use crate::record::{read_table, word};
@@ -59,18 +59,40 @@ fn has_counts(bytes: &[u8]) -> bool
     bytes.len() >= 19 && counts_fit(counts_at(bytes))
 }
 
-// How many bytes a file with these counts has.
-fn file_length(counts: Counts) -> usize
-    ensures { result ≡ file_length counts }
-{
-    let classes = counts.classes as usize * 20;
-    let names = counts.names as usize * 2;
-    let extensions = counts.extensions as usize * 6;
-    let lines = counts.lines as usize * 16;
-    let nodes = counts.nodes as usize * 6;
-    let maps = counts.maps as usize * 6;
-    let rows = counts.rows as usize * 6;
-    21 + classes + names + extensions + lines + nodes + maps + rows
+// Where each table of a file begins after the classes, and where the last one ends.
+#[derive(Clone, Copy)]
+struct Places {
+    names: usize,
+    extensions: usize,
+    lines: usize,
+    nodes: usize,
+    maps: usize,
+    rows: usize,
+    end: usize,
+}
+
+impl Places {
+    // The tables follow one another, each by the size of its records.
+    fn of(counts: Counts) -> Places
+        ensures { result ≡ record { names = names_from counts; extensions = extensions_from counts; lines = lines_from counts; nodes = nodes_from counts; maps = maps_from counts; rows = rows_from counts; end = file_length counts } }
+    {
+        let names = 21 + counts.classes as usize * 20;
+        let extensions = names + counts.names as usize * 2;
+        let lines = extensions + counts.extensions as usize * 6;
+        let nodes = lines + counts.lines as usize * 16;
+        let maps = nodes + counts.nodes as usize * 6;
+        let rows = maps + counts.maps as usize * 6;
+        let end = rows + counts.rows as usize * 6;
+        Places {
+            names,
+            extensions,
+            lines,
+            nodes,
+            maps,
+            rows,
+            end,
+        }
+    }
 }
 
 // The first thing wrong with a file: its mark, its version, a count, its length.
@@ -86,7 +108,7 @@ fn file_fault(bytes: &[u8]) -> Option<Cause>
     if !has_counts(bytes) {
         return Some(Cause::Count);
     }
-    if bytes.len() != file_length(counts_at(bytes)) {
+    if bytes.len() != Places::of(counts_at(bytes)).end {
         return Some(Cause::Length);
     }
     None
@@ -97,19 +119,14 @@ fn read_tables(heap: Global, bytes: &[u8], counts: Counts) -> Result<Loaded, All
     requires { (file_length counts ≤ length bytes.now) × (counts_fit counts ≡ true) }
     ensures { IfOk result (λ l. description l ≡ description_at bytes.now counts) }
 {
-    let names_from = 21 + counts.classes as usize * 20;
-    let extensions_from = names_from + counts.names as usize * 2;
-    let lines_from = extensions_from + counts.extensions as usize * 6;
-    let nodes_from = lines_from + counts.lines as usize * 16;
-    let maps_from = nodes_from + counts.nodes as usize * 6;
-    let rows_from = maps_from + counts.maps as usize * 6;
+    let from = Places::of(counts);
     let classes = read_table(heap, bytes, 21, counts.classes)?;
-    let names = read_table(heap, bytes, names_from, counts.names)?;
-    let extensions = read_table(heap, bytes, extensions_from, counts.extensions)?;
-    let lines = read_table(heap, bytes, lines_from, counts.lines)?;
-    let nodes = read_table(heap, bytes, nodes_from, counts.nodes)?;
-    let maps = read_table(heap, bytes, maps_from, counts.maps)?;
-    let rows = read_table(heap, bytes, rows_from, counts.rows)?;
+    let names = read_table(heap, bytes, from.names, counts.names)?;
+    let extensions = read_table(heap, bytes, from.extensions, counts.extensions)?;
+    let lines = read_table(heap, bytes, from.lines, counts.lines)?;
+    let nodes = read_table(heap, bytes, from.nodes, counts.nodes)?;
+    let maps = read_table(heap, bytes, from.maps, counts.maps)?;
+    let rows = read_table(heap, bytes, from.rows, counts.rows)?;
     let top = word(bytes, 19);
     Ok(Loaded {
         top,

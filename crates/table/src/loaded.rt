@@ -3,7 +3,8 @@ ghost use Rattle.table.specs.Limits.{within_limits};
 
 use records::records::{Class, Extension, Line, Map, Name, Node, Row};
 
-// A description as loaded, with nothing checked but how many records its tables have: the top class and the seven tables.
+// A description as loaded, with nothing checked but how many records its tables have: the top class and the seven
+// tables.
 #[derive(Drop)]
 pub struct Loaded {
     pub top: u16,

@@ -23,11 +23,11 @@ impl Loaded {
         }
     }
 
-    // Line number n with its fields by name.
-    pub fn statement(&self, n: usize) -> Statement
+    // Line number n with its fields by name, none where there is no such kind.
+    pub fn statement(&self, n: usize) -> Option<Statement>
         ensures { result ≡ statement_at (description self.now) n }
     {
-        Statement::from(self.line(n))
+        Statement::try_from(self.line(n)).ok()
     }
 
     // Class number n.

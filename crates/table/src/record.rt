@@ -1,4 +1,5 @@
 ghost use Rattle.std.specs.Prelude.{◌≡◌, ℕ, ◌+◌, ◌*◌, ◌≤◌, Bool, List, length, IfOk, vec_len};
+ghost use Rattle.std.specs.Option.{option_copied, unwrap_or};
 ghost use Rattle.records.specs.declared.counts.Counts.{Counts};
 ghost use Rattle.table.specs.Description.{entry};
 ghost use Rattle.table.specs.First.{first_upto};
@@ -8,8 +9,8 @@ ghost use Rattle.table.specs.Words.{word_at, words_at, records_at};
 use records::counts::Counts;
 use std::alloc::{AllocError, Global};
 
-// A kind of record: how many 16-bit numbers it has, the record that they make, and the rule for the fields of one record.
-// What stands for a record that is not there is its default.
+// A kind of record: how many 16-bit numbers it has, the record that they make, and the rule for the fields of one
+// record. What stands for a record that is not there is its default.
 pub trait Record: Copy + Drop + Default {
     const FIELDS: usize;
 
@@ -67,13 +68,16 @@ pub(crate) fn read_table<R: Record>(
     Ok(table)
 }
 
+// Item number n of a list that is counted from 1, if it is there.
+pub fn numbered<T>(items: &[T], n: usize) -> Option<&T>
+    ensures { (none : T) → entry items.now n none ≡ unwrap_or (option_copied result) none }
+{
+    items.get(n.checked_sub(1)?)
+}
+
 // Record number n of a table, or what stands for one that is not there.
 pub fn record_at<R: Record>(table: &[R], n: usize) -> R
     ensures { result ≡ entry table.now n R.none }
 {
-    if n == 0 || n > table.len() {
-        R::default()
-    } else {
-        table[n - 1]
-    }
+    numbered(table, n).copied().unwrap_or_default()
 }

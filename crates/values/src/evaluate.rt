@@ -10,19 +10,13 @@ use crate::operators::apply;
 use records::records::Node;
 use rules::faults::{Failure, ReadingCause};
 use rules::terms::Term;
-
-// Item number n of a list that is counted from 1, if it is there.
-fn numbered<T>(items: &[T], n: u16) -> Option<&T>
-    ensures { (none : T) → entry items.now n none ≡ unwrap_or (option_copied result) none }
-{
-    items.get((n as usize).checked_sub(1)?)
-}
+use table::record::numbered;
 
 // The value of name number n, 0 where there is none.
 pub fn name_at(names: &[i64], n: u16) -> i64
     ensures { result ≡ named_by names.now n }
 {
-    numbered(names, n).copied().unwrap_or(0)
+    numbered(names, n as usize).copied().unwrap_or(0)
 }
 
 // What an object's values are worked out from: the nodes, the values of the object's names, and its size in bytes.
@@ -38,7 +32,7 @@ impl Scope<'_> {
     fn term(&self, k: u16) -> Option<Term>
         ensures { result ≡ term (entry self.now.nodes.now k no_node) }
     {
-        Term::try_from(*numbered(self.nodes, k)?).ok()
+        Term::try_from(*numbered(self.nodes, k as usize)?).ok()
     }
 
     // The value of node number k, or the failure of the first node that fails.

@@ -109,7 +109,8 @@ pub fn is_zero(value: i64) -> bool
     value == 0
 }
 
-// What an operator gives of two values. One match over a closed set: a table of functions would be searched by the same number.
+// What an operator gives of two values. One match over a closed set: a table of functions would be searched by the
+// same number.
 pub fn apply(operator: Operator, x: i64, y: i64) -> Result<i64, ReadingCause>
     ensures { result ≡ applied operator x y }
 {

@@ -1,5 +1,5 @@
 use Rattle.std.proofs.Common.{rules}
-use Rattle.passes.specs.declared.stretches.Stretch.{Stretch}
+use Rattle.records.specs.declared.stretches.Stretch.{Stretch}
 use Rattle.table.specs.Description.{description}
 use Rattle.blocks.specs.Stretches.{past_in}
 use Rattle.blocks.proofs.holders.past.Goals as goal

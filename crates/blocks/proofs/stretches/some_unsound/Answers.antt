@@ -1,5 +1,5 @@
 use Rattle.std.proofs.Common.{rules, not}
-use Rattle.passes.specs.declared.stretches.Stretch.{Stretch}
+use Rattle.records.specs.declared.stretches.Stretch.{Stretch}
 use Rattle.table.specs.Description.{description}
 use Rattle.blocks.specs.Nesting.{block_sound}
 use Rattle.blocks.proofs.stretches.some_unsound.Goals as goal

@@ -1,6 +1,6 @@
 use Rattle.std.proofs.Common.{sym, ap, ◌∙◌, arith}
 use Rattle.records.specs.Statements.{statement}
-use Rattle.objects.proofs.Codes.{code_none, code-past, known_of, line_passed, line_next}
+use Rattle.objects.proofs.Codes.{code_none, code-past, is_line, is_none, line_passed, line_next}
 use Rattle.objects.proofs.upcoming.next_line.Goals as goal
 
 pub returns-then-line-lines : goal.returns-then-line-lines
@@ -10,17 +10,16 @@ pub loop-left-preserved : goal.loop-left-preserved
 loop-left-preserved c = (
   c.loop-left.invariant.0
       ∙ line_passed c.args.lines.now c.loop-left.line c.loop-left.left (omega arith)
-      (c.in-Unknown.ensures ∙ ap statement c.record_at.ensures),
+      (is_none _ _ _ (sym c.in-Err.is ∙ c.try_from.ensures) ∙ ap statement c.record_at.ensures),
   omega arith,
 )
 
-pub returns-in_default : goal.returns-in_default
-returns-in_default c =
+pub returns-in-Ok : goal.returns-in-Ok
+returns-in-Ok c =
+    let e = is_line _ _ _ (sym c.in-Ok.is ∙ c.try_from.ensures) ∙ ap statement c.record_at.ensures in
     record {
-      same = c.loop-left.invariant.0
-          ∙ line_next c.args.lines.now c.loop-left.line c.loop-left.left (omega arith) _ (c.from.ensures ∙ ap statement c.record_at.ensures);
-      is = sym (c.from.ensures ∙ ap statement c.record_at.ensures);
-      known = known_of _ c.in_default.not-Unknown;
+      same = c.loop-left.invariant.0 ∙ line_next c.args.lines.now c.loop-left.line c.loop-left.left (omega arith) _ e;
+      is = sym e;
     }
 
 pub returns : goal.returns

@@ -1,28 +1,30 @@
-use Rattle.std.proofs.Common.{◌≡◌, ◌+◌, ◌-◌, Ok, Err, sym, ap, ◌∙◌, arith, to_z-of_z, w64, SFits, rules}
+use Rattle.std.proofs.Common.{rules, of_calls, ◌≡◌, ℕ, ◌+◌, Bool, eqb, Option, List, map, sym, ap, ◌∙◌, arith}
+use Rattle.std.specs.List.{range_with_len, find}
+use Rattle.std.specs.Option.{option_map, ok_or}
+use Rattle.std.proofs.lemmas.Iterator.{YieldsList-from_range, YieldsList-from_map}
+use Rattle.std.proofs.lemmas.Iterator.Search.{find_from_yields_List}
+use borrow.Author.Tests.{tests}
 use Rattle.records.specs.declared.records.Row.{Row}
-use Rattle.table.specs.Description.{entry, no_row, row_at}
+use Rattle.table.specs.Description.{entry, no_row}
+use Rattle.rules.specs.declared.faults.ReadingCause.TheVariants.{NoSuchIndex}
 use Rattle.rules.specs.Lookups.{output, find_row}
-use Rattle.steps.proofs.MapRead.{no_row_left, row_found, row_passed}
+use Rattle.steps.proofs.MapRead.{given_output, option_same, row_by_number}
 use Rattle.steps.proofs.maps.find_row.Goals as goal
 
-pub returns-then-from-index : goal.returns-then-from-index
-returns-then-from-index c = λ d e.
-    let at = c.args.first + c.loop-i.i in
-    let row : c.record_at-row.result ≡ row_at d at = c.record_at-row.ensures ∙ ap (λ xs. entry xs at no_row) (sym e) in
-    let same : (row_at d at).index ≡ c.args.index = ap (λ (r : Row). r.index) (sym row) ∙ sym c.from.ensures ∙ c.if-from-index.true in
-    let f : SFits w64 c.output.result = search rules in
-    simp to_z-of_z (ap Ok (c.output.ensures ∙ ap output row) ∙ sym (c.loop-i.invariant d e ∙ row_found d at (c.args.number - c.loop-i.i) c.args.index (omega arith) same))
-
-pub loop-i-preserved : goal.loop-i-preserved
-loop-i-preserved c = λ d e.
-    let at = c.args.first + c.loop-i.i in
-    let row : c.record_at-row.result ≡ row_at d at = c.record_at-row.ensures ∙ ap (λ xs. entry xs at no_row) (sym e) in
-    let a : at + 1 ≡ c.args.first + (c.loop-i.i + 1) = omega arith in
-    let b : c.args.number - c.loop-i.i - 1 ≡ c.args.number - (c.loop-i.i + 1) = omega arith in
-    c.loop-i.invariant d e
-    ∙ row_passed d at (c.args.number - c.loop-i.i) c.args.index (omega arith) (λ z. c.if-from-index.false (c.from.ensures ∙ ap (λ (r : Row). r.index) row ∙ z))
-    ∙ ap (λ t. find_row d t (c.args.number - c.loop-i.i - 1) c.args.index) a
-    ∙ ap (λ t. find_row d (c.args.first + (c.loop-i.i + 1)) t c.args.index) b
-
 pub returns : goal.returns
-returns c = λ d e. ap Err c.into.ensures ∙ sym (c.loop-i.invariant d e ∙ no_row_left d (c.args.first + c.loop-i.i) (c.args.number - c.loop-i.i) c.args.index (omega arith))
+returns c = λ d e.
+    let first : c.args.stretch.first + 0 ≡ c.args.stretch.first = omega arith in
+    let row : ℕ → Row = λ i. entry c.args.rows.now (c.args.stretch.first + i) no_row in
+    let test : Row → Bool = λ r. eqb r.index c.args.index in
+    let found : option_map (λ (r : Row). r) c.find.result ≡ find test (map row (range_with_len 0 c.args.stretch.number)) =
+    find_from_yields_List test _ _ c.find.result c.find.ensures.ran
+    (YieldsList-from_map _ row (YieldsList-from_range 0 c.args.stretch.number c.args.stretch.number c.map.ensures.source (omega arith)) c.map.ensures.closure (λ x r q k. search rules))
+    (λ x b q k. search (rules, tests)) in
+    let told : c.map-2.result ≡ option_map output c.find.result =
+    given_output c.find.result c.map-2.result _ (λ x y q. search (rules, of_calls)) c.map-2.ensures.cases in
+    c.ok_or.ensures.value
+    ∙ (λ i. ok_or (told i) (c.into.ensures i))
+    ∙ ap (λ (r : Option Row). ok_or (option_map output r) (record { cause = NoSuchIndex; node = 0 })) (sym (option_same c.find.result) ∙ found)
+    ∙ ap (λ (xs : List Row). ok_or (option_map output (find test (map (λ i. entry xs (c.args.stretch.first + i) no_row) (range_with_len 0 c.args.stretch.number)))) (record { cause = NoSuchIndex; node = 0 })) (sym e)
+    ∙ row_by_number d c.args.stretch.first 0 c.args.stretch.number c.args.index
+    ∙ ap (λ at. find_row d at c.args.stretch.number c.args.index) first

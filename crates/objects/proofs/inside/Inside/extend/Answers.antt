@@ -24,8 +24,8 @@ returns-then-i-count g c =
     let bits = g.S.Source.bits c.args.scene.now.source.now in
     let v = c.deref-table.ensures.value in
     record {
-      same = no_extension_left d bits (object_of c.args.scene.now.about) (inner_of c.args.self.now) c.args.scene.now.place c.requires.none (subst (λ (es : List Extension). length es ≤ c.args.self.now.extension) v c.if-i-count.true);
-      fit = none_fit d _ c.requires.none;
+      same = no_extension_left d bits (object_of c.args.scene.now.about) (inner_of c.args.self.now) c.args.scene.now.place c.requires (subst (λ (es : List Extension). length es ≤ c.args.self.now.extension) v c.if-i-count.true);
+      fit = none_fit d _ c.requires;
     }
 
 pub returns-then-extension-scene : goal.returns-then-extension-scene
@@ -36,9 +36,9 @@ returns-then-extension-scene g c =
     let some : c.args.self.now.extension < length d.extensions = subst (λ (es : List Extension). c.args.self.now.extension < length es) v c.if-i-count.false in
     let is : c.record_at-extension.result ≡ extension_at d (c.args.self.now.extension + 1) = c.record_at-extension.ensures ∙ ap (λ (es : List Extension). entry es (c.args.self.now.extension + 1) no_extension) v in
     let other : eqb c.record_at-extension.result.class c.args.scene.now.about.class ≡ false = grind (arith, nat_tests) in
-    quietly_at (same-inner c.requires.none refl)
+    quietly_at (same-inner c.requires refl)
     (record {
-      same = other_extension d bits (object_of c.args.scene.now.about) (inner_of c.args.self.now) c.args.scene.now.place c.requires.none c.record_at-extension.result is some other;
+      same = other_extension d bits (object_of c.args.scene.now.about) (inner_of c.args.self.now) c.args.scene.now.place c.requires c.record_at-extension.result is some other;
       fit = none_fit d [] refl;
       near = c.args.scene.now.near;
     })
@@ -52,9 +52,9 @@ returns-then-q-scene g c =
     let is : c.record_at-extension.result ≡ extension_at d (c.args.self.now.extension + 1) = c.record_at-extension.ensures ∙ ap (λ (es : List Extension). entry es (c.args.self.now.extension + 1) no_extension) v in
     let own : eqb c.record_at-extension.result.class c.args.scene.now.about.class ≡ true = grind (arith, nat_tests) in
     let last : eqb c.in_ok-q.q c.args.scene.now.about.window.end ≡ true = grind (arith, nat_tests) in
-    quietly_at (same-inner c.requires.none refl)
+    quietly_at (same-inner c.requires refl)
     (record {
-      same = extensions_end d bits (object_of c.args.scene.now.about) (inner_of c.args.self.now) c.args.scene.now.place c.requires.none c.record_at-extension.result is some own c.in_ok-q.q (tried_ok c.record_at-extension.result.first c.args.scene.now.place c.aligned.result _ c.in_ok-q.ensures ∙ c.aligned.ensures.value) last (length c.deref-table.result.now) (subst (λ (es : List Extension). length d.extensions ≤ length es) (sym v) (omega arith));
+      same = extensions_end d bits (object_of c.args.scene.now.about) (inner_of c.args.self.now) c.args.scene.now.place c.requires c.record_at-extension.result is some own c.in_ok-q.q (tried_ok c.record_at-extension.result.first c.args.scene.now.place c.aligned.result _ c.in_ok-q.ensures ∙ c.aligned.ensures.value) last (length c.deref-table.result.now) (subst (λ (es : List Extension). length d.extensions ≤ length es) (sym v) (omega arith));
       fit = none_fit d [] refl;
       near = omega (arith, IfOk-at_ok (λ q. q ≤ c.args.scene.now.about.window.end) (sym (tried_ok c.record_at-extension.result.first c.args.scene.now.place c.aligned.result _ c.in_ok-q.ensures)) c.aligned.ensures.bound, c.args.scene.now.within, g.S.Source.short c.args.scene.now.source.now);
     })
@@ -68,10 +68,10 @@ returns-else-q-scene g c =
     let is : c.record_at-extension.result ≡ extension_at d (c.args.self.now.extension + 1) = c.record_at-extension.ensures ∙ ap (λ (es : List Extension). entry es (c.args.self.now.extension + 1) no_extension) v in
     let own : eqb c.record_at-extension.result.class c.args.scene.now.about.class ≡ true = grind (arith, nat_tests) in
     let more : eqb c.in_ok-q.q c.args.scene.now.about.window.end ≡ false = grind (arith, nat_tests) in
-    quietly_at (same-inner (c.push.ensures ∙ ap (◌∷◌ (Lines c.record_at-extension.result.first c.record_at-extension.result.number)) c.requires.none) refl)
+    quietly_at (same-inner (c.push.ensures ∙ ap (◌∷◌ (Lines c.record_at-extension.result.first c.record_at-extension.result.number)) c.requires) refl)
     (record {
-      same = extension_begins d bits (object_of c.args.scene.now.about) (inner_of c.args.self.now) c.args.scene.now.place c.requires.none c.record_at-extension.result is some own c.in_ok-q.q (tried_ok c.record_at-extension.result.first c.args.scene.now.place c.aligned.result _ c.in_ok-q.ensures ∙ c.aligned.ensures.value) more;
-      fit = extension_room d bits (object_of c.args.scene.now.about) (inner_of c.args.self.now) c.args.scene.now.place c.requires.none c.record_at-extension.result is some c.args.scene.now.readable;
+      same = extension_begins d bits (object_of c.args.scene.now.about) (inner_of c.args.self.now) c.args.scene.now.place c.requires c.record_at-extension.result is some own c.in_ok-q.q (tried_ok c.record_at-extension.result.first c.args.scene.now.place c.aligned.result _ c.in_ok-q.ensures ∙ c.aligned.ensures.value) more;
+      fit = extension_room d bits (object_of c.args.scene.now.about) (inner_of c.args.self.now) c.args.scene.now.place c.requires c.record_at-extension.result is some c.args.scene.now.readable;
       near = omega (arith, IfOk-at_ok (λ q. q ≤ c.args.scene.now.about.window.end) (sym (tried_ok c.record_at-extension.result.first c.args.scene.now.place c.aligned.result _ c.in_ok-q.ensures)) c.aligned.ensures.bound, c.args.scene.now.within, g.S.Source.short c.args.scene.now.source.now);
     })
 
@@ -86,6 +86,6 @@ returns-in_err-q g c =
     let p = err_from_is_err_and c.from_residual.result c.from_residual.ensures.1 in
     let t = tried_err c.record_at-extension.result.first c.args.scene.now.place c.aligned.result _ c.in_err-q.ensures in
     rw (p.1, p.2) (record {
-      same = λ obj. extension_fails (description c.args.scene.now.tables.now) bits (object_of c.args.scene.now.about) (inner_of c.args.self.now) c.args.scene.now.place c.requires.none c.record_at-extension.result is some own t.0 (t.1 ∙ c.aligned.ensures.value) obj ∙ ap stop t.2;
-      fit = none_fit d _ c.requires.none;
+      same = λ obj. extension_fails (description c.args.scene.now.tables.now) bits (object_of c.args.scene.now.about) (inner_of c.args.self.now) c.args.scene.now.place c.requires c.record_at-extension.result is some own t.0 (t.1 ∙ c.aligned.ensures.value) obj ∙ ap stop t.2;
+      fit = none_fit d _ c.requires;
     })

@@ -15,12 +15,11 @@ use Rattle.objects.proofs.inside.Inside.line.Goals as goal
 pub known_line-requires : goal.known_line-requires
 known_line-requires g c =
     let d = description c.args.scene.now.tables.now in
-    let n : IsNext d.lines c.args.at c.args.count c.in-Some.next.line c.in-Some.next.after c.in-Some.next.statement =
-    subst (λ (ls : List Line). IsNext ls c.args.at c.args.count c.in-Some.next.line c.in-Some.next.after c.in-Some.next.statement) c.deref.ensures.value c.in-Some.ensures in
+    let n : IsNext d.lines c.args.at c.args.count c.in-Some.next.at.line c.in-Some.next.at.after c.in-Some.next.statement =
+    subst (λ (ls : List Line). IsNext ls c.args.at c.args.count c.in-Some.next.at.line c.in-Some.next.at.after c.in-Some.next.statement) c.deref.ensures.value c.in-Some.ensures in
     record {
-      room = lines_room d c.args.at c.args.count _ n.same (frames c.args.self.now.frames) c.requires.fit;
-      known = n.known;
-      named = next_named d c.args.at c.args.count c.in-Some.next.line c.in-Some.next.after c.in-Some.next.statement n c.args.scene.now.readable;
+      room = lines_room d c.args.at c.args.count _ n.same (frames c.args.self.now.frames) c.requires;
+      named = next_named d c.args.at c.args.count c.in-Some.next.at.line c.in-Some.next.at.after c.in-Some.next.statement n c.args.scene.now.readable;
     }
 
 pub returns-in-None : goal.returns-in-None
@@ -33,7 +32,7 @@ returns-in-None g c =
     subst (λ (ls : List Line). code ls c.args.at c.args.count ≡ finish) c.deref.ensures.value c.in-None.ensures in
     record {
       same = λ obj. lines_run d c.args.at c.args.count finish n bits o i c.args.scene.now.place obj ∙ finish_run d bits o i c.args.scene.now.place obj;
-      fit = fit_under d _ _ c.requires.fit;
+      fit = fit_under d _ _ c.requires;
       near = c.args.scene.now.near;
     }
 
@@ -43,7 +42,7 @@ returns-in-Some g c =
     let bits = g.S.Source.bits c.args.scene.now.source.now in
     let o = object_of c.args.scene.now.about in
     let i = inner_of c.args.self.now in
-    let n : IsNext d.lines c.args.at c.args.count c.in-Some.next.line c.in-Some.next.after c.in-Some.next.statement =
-    subst (λ (ls : List Line). IsNext ls c.args.at c.args.count c.in-Some.next.line c.in-Some.next.after c.in-Some.next.statement) c.deref.ensures.value c.in-Some.ensures in
+    let n : IsNext d.lines c.args.at c.args.count c.in-Some.next.at.line c.in-Some.next.at.after c.in-Some.next.statement =
+    subst (λ (ls : List Line). IsNext ls c.args.at c.args.count c.in-Some.next.at.line c.in-Some.next.at.after c.in-Some.next.statement) c.deref.ensures.value c.in-Some.ensures in
     moved_from d bits o c.args.scene.now.place c.known_line.result (inner_of c.known_line.new.self)
     (lines_run d c.args.at c.args.count _ n.same bits o i c.args.scene.now.place) c.known_line.ensures

@@ -11,12 +11,12 @@ returns-then-index-total g c =
     let bits = g.S.Source.bits c.args.scene.now.source.now in
     record {
       same = counted_end (description c.args.scene.now.tables.now) bits (object_of c.args.scene.now.about) (inner_of c.args.self.now) c.args.scene.now.place c.args.line c.args.fields c.args.index c.args.total (omega arith);
-      fit = fit_under (description c.args.scene.now.tables.now) _ _ c.requires.fit;
+      fit = fit_under (description c.args.scene.now.tables.now) _ _ c.requires;
       near = c.args.scene.now.near;
     }
 
 pub push-requires : goal.push-requires
-push-requires g c = room_under (description c.args.scene.now.tables.now) (Counted c.args.line c.args.fields c.args.index c.args.total) refl c.requires.fit
+push-requires g c = room_under (description c.args.scene.now.tables.now) (Counted c.args.line c.args.fields c.args.index c.args.total) refl c.requires
 
 pub returns : goal.returns
 returns g c =
@@ -24,6 +24,6 @@ returns g c =
     begins_at (same-inner c.push.ensures refl)
     (record {
       same = counted_begins (description c.args.scene.now.tables.now) bits (object_of c.args.scene.now.about) (inner_of c.args.self.now) c.args.scene.now.place c.args.line c.args.fields c.args.index c.args.total (omega arith);
-      fit = counted_room (description c.args.scene.now.tables.now) bits (object_of c.args.scene.now.about) (inner_of c.args.self.now) c.args.scene.now.place c.args.line c.args.fields c.args.index c.args.total c.requires.fit;
-      writes = counted_name (description c.args.scene.now.tables.now) bits (object_of c.args.scene.now.about) (inner_of c.args.self.now) c.args.scene.now.place c.args.line c.args.fields c.args.index c.args.total c.requires.fit;
+      fit = counted_room (description c.args.scene.now.tables.now) bits (object_of c.args.scene.now.about) (inner_of c.args.self.now) c.args.scene.now.place c.args.line c.args.fields c.args.index c.args.total c.requires;
+      writes = counted_name (description c.args.scene.now.tables.now) bits (object_of c.args.scene.now.about) (inner_of c.args.self.now) c.args.scene.now.place c.args.line c.args.fields c.args.index c.args.total c.requires;
     })

@@ -18,15 +18,15 @@ returns-then-index-total g c =
     let bits = g.S.Source.bits c.args.scene.now.source.now in
     record {
       same = elements_end (description c.args.scene.now.tables.now) bits (object_of c.args.scene.now.about) (inner_of c.args.self.now) c.args.scene.now.place c.args.line c.args.fields c.args.index c.args.total (omega arith);
-      fit = fit_under (description c.args.scene.now.tables.now) _ _ c.requires.fit;
+      fit = fit_under (description c.args.scene.now.tables.now) _ _ c.requires;
       near = c.args.scene.now.near;
     }
 
 pub write-requires : goal.write-requires
-write-requires g c = let bits = g.S.Source.bits c.args.scene.now.source.now in element_name (description c.args.scene.now.tables.now) bits (object_of c.args.scene.now.about) (inner_of c.args.self.now) c.args.scene.now.place c.args.line c.args.fields c.args.index c.args.total c.requires.fit
+write-requires g c = let bits = g.S.Source.bits c.args.scene.now.source.now in element_name (description c.args.scene.now.tables.now) bits (object_of c.args.scene.now.about) (inner_of c.args.self.now) c.args.scene.now.place c.args.line c.args.fields c.args.index c.args.total c.requires
 
 pub push-requires : goal.push-requires
-push-requires g c = room_under (description c.args.scene.now.tables.now) (Elements c.args.line c.args.fields c.args.index c.args.total) refl c.requires.fit
+push-requires g c = room_under (description c.args.scene.now.tables.now) (Elements c.args.line c.args.fields c.args.index c.args.total) refl c.requires
 
 pub returns : goal.returns
 returns g c =
@@ -39,7 +39,7 @@ returns g c =
     (record {
       same = λ obj. element_run (description c.args.scene.now.tables.now) bits (object_of c.args.scene.now.about) (inner_of c.args.self.now) c.args.scene.now.place c.args.line c.args.fields c.args.index c.args.total (omega arith) c.in_ok-got.got (tried_ok c.args.line c.args.scene.now.place c.element.result _ c.in_ok-got.ensures ∙ c.element.ensures.value) obj
           ∙ ap (λ (x : Item). out x (inner_run d bits o (onto (Elements c.args.line c.args.fields (c.args.index + 1) c.args.total) (with_names (write c.args.fields.name c.in_ok-got.got.value i.names) i)) c.in_ok-got.got.after obj)) (sym c.value_item.ensures);
-      fit = element_room (description c.args.scene.now.tables.now) bits (object_of c.args.scene.now.about) (inner_of c.args.self.now) c.args.scene.now.place c.args.line c.args.fields c.args.index c.args.total c.requires.fit;
+      fit = element_room (description c.args.scene.now.tables.now) bits (object_of c.args.scene.now.about) (inner_of c.args.self.now) c.args.scene.now.place c.args.line c.args.fields c.args.index c.args.total c.requires;
       near = omega (arith, IfOk-at_ok (λ (g : Got). g.after ≤ c.args.scene.now.about.window.end) (sym (tried_ok c.args.line c.args.scene.now.place c.element.result _ c.in_ok-got.ensures)) c.element.ensures.bound, c.args.scene.now.within, g.S.Source.short c.args.scene.now.source.now);
     })
 
@@ -50,5 +50,5 @@ returns-in_err-got g c =
     let t = tried_err c.args.line c.args.scene.now.place c.element.result _ c.in_err-got.ensures in
     rw (p.1, p.2) (record {
       same = λ obj. element_fails (description c.args.scene.now.tables.now) bits (object_of c.args.scene.now.about) (inner_of c.args.self.now) c.args.scene.now.place c.args.line c.args.fields c.args.index c.args.total (omega arith) t.0 (t.1 ∙ c.element.ensures.value) obj ∙ ap stop t.2;
-      fit = fit_under (description c.args.scene.now.tables.now) _ _ c.requires.fit;
+      fit = fit_under (description c.args.scene.now.tables.now) _ _ c.requires;
     })

@@ -12,7 +12,7 @@ use Rattle.objects.proofs.inside.Inside.next_to_end.Goals as goal
 use Rattle.objects.proofs.inside.Inside.next_to_end.Goals.{else-index-fields-via-then-index-fields+else-not-at_end, else-index-fields-via-else-index-fields}
 
 pub push-requires : goal.push-requires
-push-requires g c = room_under (description c.args.scene.now.tables.now) (Uncounted c.args.line c.args.fields c.args.index) refl c.requires.fit
+push-requires g c = room_under (description c.args.scene.now.tables.now) (Uncounted c.args.line c.args.fields c.args.index) refl c.requires
 
 pub returns-then-not-at_end : goal.returns-then-not-at_end
 returns-then-not-at_end g c =
@@ -20,8 +20,8 @@ returns-then-not-at_end g c =
     begins_at (same-inner c.push.ensures refl)
     (record {
       same = to_end_begins (description c.args.scene.now.tables.now) bits (object_of c.args.scene.now.about) (inner_of c.args.self.now) c.args.scene.now.place c.args.line c.args.fields c.args.index (omega arith) (sym c.at_end.ensures ∙ c.if-not-at_end.true);
-      fit = to_end_room (description c.args.scene.now.tables.now) bits (object_of c.args.scene.now.about) (inner_of c.args.self.now) c.args.scene.now.place c.args.line c.args.fields c.args.index c.requires.fit;
-      writes = to_end_name (description c.args.scene.now.tables.now) bits (object_of c.args.scene.now.about) (inner_of c.args.self.now) c.args.scene.now.place c.args.line c.args.fields c.args.index c.requires.fit;
+      fit = to_end_room (description c.args.scene.now.tables.now) bits (object_of c.args.scene.now.about) (inner_of c.args.self.now) c.args.scene.now.place c.args.line c.args.fields c.args.index c.requires;
+      writes = to_end_name (description c.args.scene.now.tables.now) bits (object_of c.args.scene.now.about) (inner_of c.args.self.now) c.args.scene.now.place c.args.line c.args.fields c.args.index c.requires;
     })
 
 pub returns-then-index-fields-2 : goal.returns-then-index-fields-2
@@ -34,7 +34,7 @@ returns-then-index-fields-2 g c =
     ] in
     record {
       same = λ obj. to_end_stops (description c.args.scene.now.tables.now) bits (object_of c.args.scene.now.about) (inner_of c.args.self.now) c.args.scene.now.place c.args.line c.args.fields c.args.index ended c.if-index-fields-2.true obj ∙ ap stop (sym (c.at.ensures ∙ ap (λ (f : Failure). fault f.cause c.args.line f.node c.args.scene.now.place) c.from.ensures));
-      fit = fit_under (description c.args.scene.now.tables.now) _ _ c.requires.fit;
+      fit = fit_under (description c.args.scene.now.tables.now) _ _ c.requires;
     }
 
 pub returns : goal.returns
@@ -47,6 +47,6 @@ returns g c =
     ] in
     record {
       same = to_end_ends (description c.args.scene.now.tables.now) bits (object_of c.args.scene.now.about) (inner_of c.args.self.now) c.args.scene.now.place c.args.line c.args.fields c.args.index ended c.if-index-fields-2.false;
-      fit = fit_under (description c.args.scene.now.tables.now) _ _ c.requires.fit;
+      fit = fit_under (description c.args.scene.now.tables.now) _ _ c.requires;
       near = c.args.scene.now.near;
     }

@@ -1,4 +1,5 @@
 use Rattle.std.proofs.Common.{◌≡◌, ◌<◌, ◌≤◌, length, Ok, Option, subst, arith}
+use Rattle.std.proofs.lemmas.List.{set-get_or}
 use Rattle.rules.specs.declared.items.Item.{Item}
 use Rattle.reading.specs.Reads.{ahead, Told}
 use Rattle.reading.proofs.Filling.{filling_goes, filled_full, filled_end, filled_refused}
@@ -18,7 +19,7 @@ returns-in-Ok-None g c =
     let b = ahead g.S.Source.bits c.loop-count.self in
     let room : c.loop-count.count < length c.args.table.now = omega (arith, c.loop-count.invariant.long) in
     let told = subst (λ (o : Option Item). Told b (Ok o) (ahead g.S.Source.bits c.next.new.self)) c.in-Ok-None.field-0-is c.in-Ok-None.ensures.told in
-    filled_end a c.args.table.now c.loop-count.count c.loop-count.table b c.loop-count.invariant room (ahead g.S.Source.bits c.next.new.self) told.0 told.1
+    rw set-get_or (filled_end a c.args.table.now c.loop-count.count c.loop-count.table b c.loop-count.invariant room (ahead g.S.Source.bits c.next.new.self) told.0 told.1)
 
 pub returns-in-Err : goal.returns-in-Err
 returns-in-Err g c =
@@ -26,7 +27,7 @@ returns-in-Err g c =
     let b = ahead g.S.Source.bits c.loop-count.self in
     let room : c.loop-count.count < length c.args.table.now = omega (arith, c.loop-count.invariant.long) in
     let told = c.in-Err.ensures.told in
-    filled_refused a c.args.table.now c.loop-count.count c.loop-count.table b c.loop-count.invariant room c.in-Err.fault (ahead g.S.Source.bits c.next.new.self) told.0 told.1
+    rw set-get_or (filled_refused a c.args.table.now c.loop-count.count c.loop-count.table b c.loop-count.invariant room c.in-Err.fault (ahead g.S.Source.bits c.next.new.self) told.0 told.1)
 
 pub returns : goal.returns
 returns g c =

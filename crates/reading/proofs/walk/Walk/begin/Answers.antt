@@ -1,7 +1,10 @@
-use Rattle.std.proofs.Common.{◌≤◌, sym, ap, ◌∙◌, subst, arith}
+use Rattle.std.proofs.Common.{◌+◌, ◌*◌, ◌≤◌, sym, ap, ◌∙◌, subst, arith, rules, of_calls}
+use Rattle.std.proofs.lemmas.Result.{err_from_is_err_and, IfOk-at_ok}
 use Rattle.records.specs.declared.records.Class.{Class}
 use Rattle.table.specs.Description.{description}
 use Rattle.rules.specs.Steps.{header}
+use Rattle.rules.specs.declared.steps.Header.{Header}
+use Rattle.objects.proofs.Tries.{tried_ok, tried_err, told_at}
 use Rattle.rules.specs.declared.faults.Failure.{Failure}
 use Rattle.rules.specs.Checks.{fault}
 use Rattle.rules.specs.Trace.{stop}
@@ -15,7 +18,7 @@ returns-then-self-ge-MOST g c =
     let d = description c.args.tables.now in
     let bits = g.S.Source.bits c.args.view.now.source.now in
     record {
-      same = begin_full d bits (objects_of c.args.self.now) c.args.used.line c.args.used.class c.args.used.index c.args.used.carried c.args.used.receiving c.args.view.now.window c.args.self.now.place (all_open c.args.self.now (omega arith)) ∙ ap stop (sym (c.at.ensures ∙ ap (λ (f : Failure). fault f.cause c.args.used.line f.node c.args.self.now.place) c.from.ensures));
+      same = begin_full d bits (objects_of c.args.self.now) c.args.used c.args.view.now.window c.args.self.now.place (all_open c.args.self.now (omega arith)) ∙ ap stop (sym (c.at.ensures ∙ ap (λ (f : Failure). fault f.cause c.args.used.line f.node c.args.self.now.place) c.from.ensures));
       sound = c.requires.sound;
     }
 
@@ -28,28 +31,36 @@ header-requires g c =
 
 pub enter-requires : goal.enter-requires
 enter-requires g c =
+    let bits = g.S.Source.bits c.args.view.now.source.now in
+    let told = tried_ok c.args.used.line c.args.self.now.place c.header.result c.in_ok-header.header
+    (sym c.in_ok-header.was ∙ told_at c.args.used.line c.args.self.now.place c.header.result c.map_err.result _ (λ f y q. search (rules, of_calls)) c.map_err.ensures.cases) in
+    let bound = IfOk-at_ok (λ (h : Header). (c.args.self.now.place ≤ h.place) × (h.place ≤ h.after) × (h.after + 8 * h.size ≤ c.args.view.now.window.end)) (sym told) c.header.ensures.bound in
     record {
       sound = c.requires.sound;
       room = few_open c.args.self.now (omega arith);
       readable = c.requires.readable;
-      writes = c.requires.writes;
       most = c.greatest-greatest.ensures;
-      short = (c.in-Ok.ensures.bound.2, omega (arith, c.args.view.now.within, g.S.Source.short c.args.view.now.source.now));
+      short = (bound.2, omega (arith, c.args.view.now.within, g.S.Source.short c.args.view.now.source.now));
     }
 
-pub returns-in-Ok : goal.returns-in-Ok
-returns-in-Ok g c =
+pub returns : goal.returns
+returns g c =
     let bits = g.S.Source.bits c.args.view.now.source.now in
+    let told = tried_ok c.args.used.line c.args.self.now.place c.header.result c.in_ok-header.header
+    (sym c.in_ok-header.was ∙ told_at c.args.used.line c.args.self.now.place c.header.result c.map_err.result _ (λ f y q. search (rules, of_calls)) c.map_err.ensures.cases) in
     c.enter.ensures bits c.args.view.now.within
-    (c.in-Ok.ensures.value ∙ (λ i. header bits c.args.view.now.window (c.class.ensures i) (c.greatest-greatest.ensures i) c.args.self.now.place))
+    (told ∙ c.header.ensures.value ∙ (λ i. header bits c.args.view.now.window (c.class.ensures i) (c.greatest-greatest.ensures i) c.args.self.now.place))
 
-pub returns-in-Err : goal.returns-in-Err
-returns-in-Err g c =
+pub returns-in_err-header : goal.returns-in_err-header
+returns-in_err-header g c =
     let d = description c.args.tables.now in
     let bits = g.S.Source.bits c.args.view.now.source.now in
-    record {
-      same = begin_fails d bits (objects_of c.args.self.now) c.args.used.line c.args.used.class c.args.used.index c.args.used.carried c.args.used.receiving c.args.view.now.window c.args.self.now.place (few_open c.args.self.now (omega arith)) _
-          (c.in-Err.ensures.value ∙ (λ i. header bits c.args.view.now.window (c.class.ensures i) (c.greatest-greatest.ensures i) c.args.self.now.place))
-          ∙ ap stop (sym c.at-in-Err.ensures);
+    let p = err_from_is_err_and c.from_residual.result c.from_residual.ensures.1 in
+    let t = tried_err c.args.used.line c.args.self.now.place c.header.result _
+    (sym c.in_err-header.was ∙ told_at c.args.used.line c.args.self.now.place c.header.result c.map_err.result _ (λ f y q. search (rules, of_calls)) c.map_err.ensures.cases) in
+    rw (p.1, p.2) (record {
+      same = begin_fails d bits (objects_of c.args.self.now) c.args.used c.args.view.now.window c.args.self.now.place (few_open c.args.self.now (omega arith)) t.0
+          (t.1 ∙ c.header.ensures.value ∙ (λ i. header bits c.args.view.now.window (c.class.ensures i) (c.greatest-greatest.ensures i) c.args.self.now.place))
+          ∙ ap stop t.2;
       sound = c.requires.sound;
-    }
+    })

@@ -14,7 +14,7 @@ use Rattle.reading.proofs.walk.Walk.enter.Goals.{else-class-eq0-via-then-class-e
 pub returns-then-greatest-eq0 : goal.returns-then-greatest-eq0
 returns-then-greatest-eq0 c = λ bits w e.
     record {
-      same = begin_unknown (description c.args.tables.now) bits (objects_of c.args.self.now) c.args.used.line c.args.used.class c.args.used.index c.args.used.carried c.args.used.receiving c.args.window c.args.self.now.place c.requires.room c.args.header e (sym c.object_class-class.ensures ∙ c.if-class-eq0.true) (sym c.requires.most ∙ c.if-greatest-eq0.true) ∙ ap stop (sym (c.at.ensures ∙ ap (λ (f : Failure). fault f.cause c.args.used.line f.node c.args.self.now.place) c.from.ensures));
+      same = begin_unknown (description c.args.tables.now) bits (objects_of c.args.self.now) c.args.used c.args.window c.args.self.now.place c.requires.room c.args.header e (sym c.object_class-class.ensures ∙ c.if-class-eq0.true) (sym c.requires.most ∙ c.if-greatest-eq0.true) ∙ ap stop (sym (c.at.ensures ∙ ap (λ (f : Failure). fault f.cause c.args.used.line f.node c.args.self.now.place) c.from.ensures));
       sound = c.requires.sound;
     }
 
@@ -34,9 +34,9 @@ returns c = λ bits w e.
     (let k = inner_end d bits (greatest d c.args.used.class) h c.args.window c.requires.short.0 in omega arith) in
     record {
       same =
-          begin_enters (description c.args.tables.now) bits (objects_of c.args.self.now) c.args.used.line c.args.used.class c.args.used.index c.args.used.carried c.args.used.receiving c.args.window c.args.self.now.place c.requires.room c.args.header e c.object_class-class.result c.object_class-class.ensures known end c.begun.result c.begun.ensures
+          begin_enters (description c.args.tables.now) bits (objects_of c.args.self.now) c.args.used c.args.window c.args.self.now.place c.requires.room c.args.header e c.object_class-class.result c.object_class-class.ensures known end c.begun.result c.begun.ensures
           ∙ sym (λ i. out (c.open_item.ensures i)
-          (rest d bits (record { about = record { class = c.object_class-class.result; size = h.size; window = win i; greatest = m i; line = c.args.used.line; index = c.args.used.index; carried = c.args.used.carried; receiving = c.args.used.receiving }; inside = c.begun.result } ∷ objects_of c.args.self.now) h.after))
+          (rest d bits (record { opened = record { about = record { class = c.object_class-class.result; size = h.size; window = win i }; greatest = m i; used = c.args.used }; inside = c.begun.result } ∷ objects_of c.args.self.now) h.after))
           ∙ ap (out c.open_item.result) (sym (pushed_ahead d bits _ _ c.args.self.now c.push.new.self c.push.ensures));
-      sound = pushed_sound d bits _ _ c.args.self.now c.push.new.self c.push.ensures c.requires.sound c.begun.ensures.fit c.requires.writes (omega (arith, c.requires.short.0, c.requires.short.1));
+      sound = pushed_sound d bits _ _ c.args.self.now c.push.new.self c.push.ensures c.requires.sound c.begun.ensures.fit (omega (arith, c.requires.short.0, c.requires.short.1));
     }

@@ -11,6 +11,10 @@ pub bounds-self-self : goal.bounds-self-self
 unfolding objects_of
 bounds-self-self c = let h = stack_room no_object c.args.self.now.objects c.args.self.now.depth 16 c.requires in omega arith
 
+pub listed : goal.listed
+unfolding objects_of
+listed c = let h = stack_room no_object c.args.self.now.objects c.args.self.now.depth 16 c.requires in omega arith
+
 pub overflow_add-self : goal.overflow_add-self
 unfolding objects_of
 overflow_add-self c = let h = stack_room no_object c.args.self.now.objects c.args.self.now.depth 16 c.requires in omega arith

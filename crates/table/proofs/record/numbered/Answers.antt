@@ -1,7 +1,7 @@
 use Rattle.std.proofs.Common.{◌≡◌, ℕ, zero, suc, ◌-◌, ◌≤◌, List, get_or, sym, ap, ◌∙◌, arith}
 use Rattle.table.specs.Description.{entry}
-use Rattle.rules.proofs.Entries.{entry_at, entry_none}
-use Rattle.values.proofs.evaluate.numbered.Goals as goal
+use Rattle.table.proofs.Entries.{entry_at, entry_none}
+use Rattle.table.proofs.record.numbered.Goals as goal
 
 at_none : {A : Type 0} (xs : List A) (n : ℕ) (x : A) → (1 ≤ n → ⊥) → entry xs n x ≡ x
 at_none xs zero x h = entry_none xs x

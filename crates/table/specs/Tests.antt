@@ -1,4 +1,4 @@
--- Tests of records by their numbers, or of stretches.
+-- What a test of numbers, stretches or values answers.
 use Rattle.std.specs.Prelude.{◌≡◌, Bool}
 
 -- what the test `f`, whose calls have the results that `post` says, answers of x is p x

@@ -1,7 +1,7 @@
 ghost use Rattle.std.specs.Prelude.{◌≡◌, ◌<◌, true};
-ghost use Rattle.passes.specs.Stretches.{in_stretch};
+ghost use Rattle.records.specs.Stretches.{in_stretch};
 
-use records::records::{Class, Extension, Map};
+use crate::records::{Class, Extension, Map};
 
 // A stretch of a table: the `number` records from `first` on.
 #[derive(Clone, Copy)]
@@ -16,7 +16,8 @@ impl Stretch {
         ensures value { result ≡ in_stretch self.first self.number n }
         ensures bound { result ≡ true → n < 131072 }
     {
-        self.first as usize <= n && n < self.first as usize + self.number as usize
+        let first = self.first as usize;
+        (first..first + self.number as usize).contains(&n)
     }
 }
 

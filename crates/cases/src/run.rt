@@ -1,0 +1,31 @@
+use crate::tally::Tally;
+use std::fs;
+
+// What stands between the cases of a file: each is a line, or a block of lines with an empty line after it.
+pub(crate) const LINES: &str = "\n";
+
+pub(crate) const BLOCKS: &str = "\n\n";
+
+// Runs the cases of a file by a test of one, and prints which differ and how many there are. `how` is printed after
+// the file's name.
+pub(crate) fn run<F: Fn(&str) -> anyhow::Result<bool>>(
+    rt: &HostRuntime,
+    file: &str,
+    how: &str,
+    between: &str,
+    agrees: F,
+) -> anyhow::Result<()>
+    requires { F.IsAlwaysCallable agrees }
+{
+    let text = fs::read_to_string(rt, file)?;
+    let mut tally = Tally::default();
+    for case in text.as_str().trim_end().split(between) {
+        tally.begin();
+        if !agrees(case)? {
+            let number = tally.differs();
+            println!(rt; "{file}{how}, case {number} differs")?;
+        }
+    }
+    println!(rt; "{file}{how}: {tally}")?;
+    Ok(())
+}
