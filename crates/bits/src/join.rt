@@ -8,8 +8,9 @@ use crate::place::check_place;
 use crate::refusal::Refusal;
 use crate::source::{LONGEST, Source};
 
-// The bits of one source, and then those of another. That they are not too many is no ghost field,
-// as that would take the derived `Clone` from joins of sources that are not `Copy`.
+// The bits of one source, and then those of another. That they are not too many is no ghost field:
+// the derives take no generic struct that has one, so it would take `Clone` and `Copy` away from
+// joins of all sources that have them now.
 #[derive(Clone, Copy)]
 pub struct Join<S, T> {
     front: S,

@@ -20,7 +20,8 @@ pub fn put_bits(bytes: &mut [u8], p: u32, n: u32, value: u64) -> Result<(), Refu
     Ok(())
 }
 
-// Stores the n lowest bits of `value` from place p on, byte by byte.
+// Stores the n lowest bits of `value` from place p on, byte by byte. By index: over `iter_mut`, `enumerate`, `take` and
+// `skip` it was tried, where the loop's invariant has no name for the bytes stored so far, and the proof did not close.
 fn store(bytes: &mut [u8], p: u32, n: u32, value: u64)
     requires { (n ≤ 64) × (p + n ≤ length bytes.old * 8) }
     ensures { bits_all 8 bytes.new ≡ with_bits (bits_all 8 bytes.old) p n value }

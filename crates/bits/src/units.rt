@@ -44,7 +44,7 @@ pub struct Units<'a, U: Unit> {
     ghost few: { length units.now * U.BITS ≤ longest },
 }
 
-// By hand, as the derives of these two take no generic struct with a ghost field.
+// By hand: the derives take no generic struct with a ghost field, so they gave it neither `Clone` nor `Copy`.
 impl<U: Unit> Copy for Units<'_, U> {}
 
 impl<U: Unit> Clone for Units<'_, U> {

@@ -9,7 +9,8 @@ use crate::refusal::Refusal;
 use crate::source::Source;
 
 // The bits of a source from place `first` up to place `end`. That they lie in the source is no ghost
-// field, as that would take the derived `Clone` from windows over sources that are not `Copy`.
+// field: the derives take no generic struct that has one, so it would take `Clone` and `Copy` away
+// from windows over every source that has them now.
 #[derive(Clone, Copy)]
 pub struct Window<S> {
     inner: S,

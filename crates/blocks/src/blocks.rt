@@ -1,6 +1,6 @@
 ghost use Rattle.std.specs.Prelude.{◌≡◌, ℕ, ◌+◌, ◌<◌};
 ghost use Rattle.table.specs.Description.{description};
-ghost use Rattle.blocks.specs.Nesting.{has_blocks, in_first, in_second, block_sound, line_sound};
+ghost use Rattle.blocks.specs.Nesting.{has_blocks, in_first, in_second, taken, block_sound, line_sound};
 
 use records::statements::Statement;
 use table::loaded::Loaded;
@@ -38,6 +38,14 @@ pub(crate) fn in_second(s: Option<Statement>) -> usize
     }
 }
 
+// The lines that a line takes with its blocks.
+pub(crate) fn taken(s: Option<Statement>) -> usize
+    ensures value { result ≡ taken s }
+    ensures bound { result < 131072 }
+{
+    1 + in_first(s) + in_second(s)
+}
+
 // Whether the `count` lines from `first` on, inside `depth` blocks, are a sound block: each of its lines is sound.
 #[cycle(block_sound_line_sound)]
 #[tactic(auto, using(crate::proofs::Steps::sound_none, crate::proofs::Steps::past_unsound, crate::proofs::Steps::past_sound))]
@@ -51,8 +59,7 @@ pub(crate) fn block_sound(loaded: &Loaded, first: usize, count: usize, depth: us
     if !line_sound(loaded, first, count, depth) {
         return false;
     }
-    let line = loaded.statement(first);
-    let taken = 1 + in_first(line) + in_second(line);
+    let taken = taken(loaded.statement(first));
     block_sound(loaded, first + taken, count - taken, depth)
 }
 
@@ -64,8 +71,7 @@ fn line_sound(loaded: &Loaded, first: usize, room: usize, depth: usize) -> bool
 {
     let line = loaded.statement(first);
     let b = in_first(line);
-    let c = in_second(line);
-    if 1 + b + c > room {
+    if taken(line) > room {
         return false;
     }
     if has_blocks(line) && depth >= DEEPEST {
@@ -74,5 +80,5 @@ fn line_sound(loaded: &Loaded, first: usize, room: usize, depth: usize) -> bool
     if !block_sound(loaded, first + 1, b, depth + 1) {
         return false;
     }
-    block_sound(loaded, first + 1 + b, c, depth + 1)
+    block_sound(loaded, first + 1 + b, in_second(line), depth + 1)
 }

@@ -4,7 +4,7 @@ ghost use Rattle.records.specs.Stretches.{in_stretch};
 ghost use Rattle.blocks.specs.Nesting.{taken};
 ghost use Rattle.blocks.specs.Stretches.{ends_before, past_block, past_in, past, line_stretch, holds, deep_in, line_depth};
 
-use crate::blocks::{DEEPEST, has_blocks, in_first, in_second};
+use crate::blocks::{DEEPEST, has_blocks, in_first, in_second, taken};
 use crate::stretches::{in_one, some_stretch};
 use passes::first::{count, some};
 use records::stretches::Stretch;
@@ -23,8 +23,7 @@ fn end_of(loaded: &Loaded, n: usize) -> usize
     requires { n < 4294967296 }
     ensures { result ≡ n + taken (statement_at (description loaded.now) n) }
 {
-    let line = loaded.statement(n);
-    n + (1 + in_first(line) + in_second(line))
+    n + taken(loaded.statement(n))
 }
 
 // Whether line m of a stretch has a block that holds line n, and ends before `end`.
@@ -75,8 +74,7 @@ fn holds(loaded: &Loaded, stretch: Stretch, n: usize, m: usize) -> bool
     if !stretch.has(m) {
         return false;
     }
-    let line = loaded.statement(m);
-    (m + 1..m + 1 + in_first(line) + in_second(line)).contains(&n)
+    (m + 1..end_of(loaded, m)).contains(&n)
 }
 
 // Whether line n is in a stretch, and in blocks of at least eight of its lines.

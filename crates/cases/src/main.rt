@@ -4,14 +4,23 @@
 mod descriptions;
 mod growth_cases;
 mod lines;
+mod makes;
 mod operators;
+mod outcome;
+mod readings;
 mod run;
+mod stream;
 mod tally;
+mod writings;
 
 use descriptions::check_agrees;
 use growth_cases::{grown_agrees, struck_agrees};
+use makes::Make;
 use operators::value_agrees;
+use outcome::Call;
+use readings::{NEWER, OLDER, ONLY};
 use run::{BLOCKS, LINES, run};
+use writings::written_agrees;
 
 fn main(rt: HostRuntime) -> anyhow::Result<()> {
     run_all(&rt)
@@ -40,5 +49,50 @@ fn run_all(rt: &HostRuntime) -> anyhow::Result<()> {
         "",
         BLOCKS,
         |case| Ok(grown_agrees(heap, case)? && struck_agrees(heap, case)?),
+    )?;
+    // writings, call by call
+    run(
+        rt,
+        "write.txt",
+        "",
+        BLOCKS,
+        |case| written_agrees(heap, case),
+    )?;
+    for make in Make::ALL {
+        for call in Call::ALL {
+            read_all(rt, make, call)?;
+        }
+    }
+    Ok(())
+}
+
+// Runs the cases of readings, from a make of source, by a call.
+fn read_all(rt: &HostRuntime, make: Make, call: Call) -> anyhow::Result<()> {
+    let heap = rt.alloc();
+    let how = format!(in heap; ", from {make} by {call}")?;
+    let how = how.as_str();
+    // readings of random descriptions
+    run(
+        rt,
+        "read.txt",
+        how,
+        BLOCKS,
+        |case| ONLY.agrees(heap, case, make, call),
+    )?;
+    // and of those of one operator
+    run(
+        rt,
+        "operators.txt",
+        how,
+        BLOCKS,
+        |case| ONLY.agrees(heap, case, make, call),
+    )?;
+    // readings by an older and a newer description
+    run(
+        rt,
+        "grow.txt",
+        how,
+        BLOCKS,
+        |case| Ok(NEWER.agrees(heap, case, make, call)? && OLDER.agrees(heap, case, make, call)?),
     )
 }

@@ -1,8 +1,10 @@
 // Cases of one operator each. A description has three lines: the first two read the operands into names 1 and 2, and
 // the third reads a number that has to be the value of node 4, the operator's, since that is both its lowest and its
 // highest.
-use crate::lines::{bytes_of, description_after, item_of, lines_after, words_after};
-use anyhow::{Context, anyhow};
+use crate::lines::{description_after, item_of, lines_after};
+use crate::stream::Stream;
+use anyhow::Context;
+use records::statements::{ReadLine, Statement};
 use rules::faults::{Failure, ReadingCause, ReadingFault};
 use rules::items::{Item, Kind};
 use std::alloc::{AllocError, Global};
@@ -30,8 +32,10 @@ pub(crate) fn value_agrees(heap: Global, case: &str) -> anyhow::Result<bool> {
         names: &names,
         size: 0,
     };
-    let number = third_number(heap, case)?;
-    let read = if tables.line(LINE as usize).kind == 2 {
+    let stream = Stream::of(heap, case)?;
+    let number = *stream.words.get(2).context("a case with fewer bits")?;
+    let third = tables.statement(LINE as usize);
+    let read = if matches!(third, Some(Statement::Read(ReadLine { signed: true, .. }))) {
         i64::from(number.cast_signed())
     } else {
         i64::from(number)
@@ -63,15 +67,4 @@ fn shown(heap: Global, answer: Result<Item, ReadingFault>) -> Result<String, All
         Ok(item) => format!(in heap; "{item}"),
         Err(fault) => format!(in heap; "refused {fault}"),
     }
-}
-
-// The number that the last four bytes of a case's bits write.
-fn third_number(heap: Global, case: &str) -> anyhow::Result<u32> {
-    let mut words = words_after(case, "bits");
-    let _length = words.next();
-    let bytes = bytes_of(heap, words.next().context("a case without bits")?)?;
-    let [.., a, b, c, d] = bytes.as_slice() else {
-        return Err(anyhow!("fewer than four bytes"));
-    };
-    Ok(u32::from_be_bytes([*a, *b, *c, *d]))
 }

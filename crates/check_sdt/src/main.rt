@@ -3,8 +3,8 @@
 
 use anyhow::anyhow;
 use checked::checked::Checked;
+use programs::{refuse, run};
 use records::counts::Counts;
-use records::faults::Fault;
 use std::process::ExitCode;
 use std::{env, fs};
 
@@ -18,22 +18,9 @@ file as a whole or its top class) and the record. One sentence on what the numbe
 standard error. The status is 0 if the description is accepted, else 1.";
 
 fn main(rt: HostRuntime) -> ExitCode {
-    match run(&rt) {
-        Ok(()) => ExitCode::SUCCESS,
-        // what went wrong has been said
-        Err(_) => ExitCode::FAILURE,
-    }
-}
-
-fn run(rt: &HostRuntime) -> anyhow::Result<()> {
-    match file_name(rt) {
-        Ok(Some(name)) => check(rt, name.as_str()),
-        Ok(None) => Ok(rt.println(HELP)?),
-        Err(error) => {
-            eprintln!(rt; "check: {error}")?;
-            Err(error)
-        }
-    }
+    run(&rt, "check", HELP, file_name(&rt), |name: String| {
+        check(&rt, name.as_str())
+    })
 }
 
 // The file that the arguments name, or none where they ask for help.
@@ -52,29 +39,28 @@ fn file_name(rt: &HostRuntime) -> anyhow::Result<Option<String>> {
     Ok(Some(name))
 }
 
-// Checks the file of this name, and prints what came of it.
-fn check(rt: &HostRuntime, name: &str) -> anyhow::Result<()> {
-    let bytes = match fs::read(rt, name) {
-        Ok(bytes) => bytes,
+// The bytes of a file; where it can't be read, that is said. Each program has its own: what is public has a contract,
+// and none can speak of what a file holds.
+fn bytes_of(rt: &HostRuntime, name: &str) -> anyhow::Result<Vec<u8>> {
+    match fs::read(rt, name) {
+        Ok(bytes) => Ok(bytes),
         Err(error) => {
             eprintln!(rt; "check: {name}: {error}")?;
-            return Err(anyhow!("unreadable"));
+            Err(anyhow!("unreadable"))
         }
-    };
+    }
+}
+
+// Checks the file of this name, and prints what came of it.
+fn check(rt: &HostRuntime, name: &str) -> anyhow::Result<()> {
+    let bytes = bytes_of(rt, name)?;
     match Checked::load(rt.alloc(), bytes.as_slice()) {
         Ok(checked) => accept(rt, checked.tables().counts()),
-        Err(fault) => refuse(rt, fault),
+        Err(fault) => refuse(rt, &fault, &fault.cause),
     }
 }
 
 fn accept(rt: &HostRuntime, counts: Counts) -> anyhow::Result<()> {
     println!(rt; "accepted {counts}")?;
     Ok(())
-}
-
-fn refuse(rt: &HostRuntime, fault: Fault) -> anyhow::Result<()> {
-    let cause = fault.cause;
-    println!(rt; "refused {fault}")?;
-    eprintln!(rt; "{cause}")?;
-    Err(anyhow!("refused"))
 }

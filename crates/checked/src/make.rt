@@ -15,6 +15,7 @@ impl Checked {
     pub fn new(loaded: Loaded) -> Result<Checked, Fault>
         ensures { Makes (first_fault (description loaded)) loaded result }
     {
+        // by a match: in `map_or_else` the part without a fault is a closure, which does not know that there is none
         match first_fault(&loaded) {
             Some(fault) => Err(fault),
             None => Ok(Checked::of(loaded)),

@@ -2,6 +2,7 @@ ghost use Rattle.std.specs.Prelude.{◌≡◌};
 ghost use Rattle.fields.specs.Tables.{base_fine, abstract_fine, class_fine, name_fine, extension_fine, map_fine, top_fine};
 
 use crate::values::{is_stretch, names_one, names_one_or_none, one_to_sixteen};
+use records::classes::ClassKind;
 use records::counts::Counts;
 use records::records::{Class, Extension, Map, Name};
 use records::stretches::Stretch;
@@ -32,7 +33,7 @@ fn abstract_fine(c: Class) -> bool
 pub fn class_fine(counts: Counts, c: Class) -> bool
     ensures { result ≡ class_fine counts c }
 {
-    c.kind <= 2
+    c.kind <= ClassKind::Member as u16
         && base_fine(counts, c)
         && abstract_fine(c)
         && c.width <= 16

@@ -7,7 +7,7 @@ use records::stretches::Stretch;
 pub(crate) fn names_one(v: u16, count: u16) -> bool
     ensures { result ≡ names_one v count }
 {
-    v != 0 && v <= count
+    (1..=count).contains(&v)
 }
 
 // Whether v is such a number, or 0.
@@ -32,12 +32,12 @@ pub(crate) fn is_stretch(stretch: Stretch, count: u16) -> bool
 pub(crate) fn one_to_sixteen(v: u16) -> bool
     ensures { result ≡ one_to_sixteen v }
 {
-    v != 0 && v <= 16
+    (1..=16).contains(&v)
 }
 
 // Whether v is an alignment in bits.
 pub(crate) fn is_alignment(v: u16) -> bool
     ensures { result ≡ is_alignment v }
 {
-    v == 0 || v == 8 || v == 16 || v == 32 || v == 64 || v == 128
+    matches!(v, 0 | 8 | 16 | 32 | 64 | 128)
 }

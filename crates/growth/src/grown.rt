@@ -35,7 +35,8 @@ fn line_grown(names: usize, line: Line) -> bool
     name == 0 || name > names
 }
 
-// Each new member of an older family is in an expandable one.
+// Each new member of an older family is in an expandable one. This and the next are two, each with its own definition:
+// what they share is the chain of three calls, which one with a closure would write out again.
 fn members_grown(older: &[Class], newer: &[Class]) -> bool
     ensures { result ≡ list_all (member_grown older.now) (drop (length older.now) newer.now) }
 {

@@ -1,4 +1,4 @@
-// Records that stand unchanged in place.
+// Records that stand unchanged in place. The seven impls are written out: a macro takes no ghost item.
 ghost use Rattle.std.proofs.Common.{rules};
 ghost use Rattle.growth.specs.Same.{same_last, same_more};
 ghost use Rattle.std.specs.Prelude.{◌≡◌, ℕ, List};

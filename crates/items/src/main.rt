@@ -4,9 +4,10 @@
 use anyhow::anyhow;
 use bits::bytes::Bytes;
 use checked::checked::Checked;
+use programs::{refuse, run};
 use reading::state::Reading;
 use std::process::ExitCode;
-use std::{env, fmt, fs};
+use std::{env, fs};
 
 const HELP: &str = "usage: items [DESCRIPTION STREAM]
 
@@ -26,22 +27,9 @@ struct Files {
 }
 
 fn main(rt: HostRuntime) -> ExitCode {
-    match run(&rt) {
-        Ok(()) => ExitCode::SUCCESS,
-        // what went wrong has been said
-        Err(_) => ExitCode::FAILURE,
-    }
-}
-
-fn run(rt: &HostRuntime) -> anyhow::Result<()> {
-    match named_files(rt) {
-        Ok(Some(files)) => items(rt, files.description.as_str(), files.stream.as_str()),
-        Ok(None) => Ok(rt.println(HELP)?),
-        Err(error) => {
-            eprintln!(rt; "items: {error}")?;
-            Err(error)
-        }
-    }
+    run(&rt, "items", HELP, named_files(&rt), |files: Files| {
+        items(&rt, &files)
+    })
 }
 
 // The files that the arguments name, or none where they ask for help.
@@ -69,7 +57,8 @@ fn named_files(rt: &HostRuntime) -> anyhow::Result<Option<Files>> {
     }))
 }
 
-// The bytes of a file; where it can't be read, that is said.
+// The bytes of a file; where it can't be read, that is said. Each program has its own: what is public has a contract,
+// and none can speak of what a file holds.
 fn bytes_of(rt: &HostRuntime, name: &str) -> anyhow::Result<Vec<u8>> {
     match fs::read(rt, name) {
         Ok(bytes) => Ok(bytes),
@@ -81,13 +70,13 @@ fn bytes_of(rt: &HostRuntime, name: &str) -> anyhow::Result<Vec<u8>> {
 }
 
 // Reads the stream by the description, and prints what comes of it.
-fn items(rt: &HostRuntime, description: &str, stream: &str) -> anyhow::Result<()> {
-    let bytes = bytes_of(rt, description)?;
+fn items(rt: &HostRuntime, files: &Files) -> anyhow::Result<()> {
+    let bytes = bytes_of(rt, files.description.as_str())?;
     let checked = match Checked::load(rt.alloc(), bytes.as_slice()) {
         Ok(checked) => checked,
         Err(fault) => return refuse(rt, &fault, &fault.cause),
     };
-    let bits = bytes_of(rt, stream)?;
+    let bits = bytes_of(rt, files.stream.as_str())?;
     match Bytes::new(bits.as_slice()) {
         Ok(source) => print_items(rt, Reading::open(&checked, source)),
         Err(refusal) => refuse(rt, &refusal.number(), &refusal),
@@ -107,15 +96,4 @@ fn print_items(rt: &HostRuntime, mut reading: Reading<Bytes>) -> anyhow::Result<
         }
     }
     Err(anyhow!("more items than a number can count"))
-}
-
-// Prints the numbers of a refusal, and on standard error what they mean.
-fn refuse<N: fmt::Display, C: fmt::Display>(
-    rt: &HostRuntime,
-    numbers: &N,
-    cause: &C,
-) -> anyhow::Result<()> {
-    println!(rt; "refused {numbers}")?;
-    eprintln!(rt; "{cause}")?;
-    Err(anyhow!("refused"))
 }

@@ -1,14 +1,13 @@
 -- The code of some lines, line by line.
-use Rattle.std.proofs.Common.{Ok, Err, ◌≡◌, ℕ, zero, suc, ◌+◌, ◌-◌, ◌<◌, ◌≤◌, min, List, length, sym, refl, ap, ◌∙◌, add-one, arith, Option, Some, None}
+use Rattle.std.proofs.Common.{Ok, Err, ◌≡◌, ℕ, zero, suc, ◌+◌, ◌-◌, ◌<◌, List, length, sym, refl, ap, ◌∙◌, add-one, arith, Option, Some, None}
 use Rattle.std.specs.Option.{ok_or}
 use lib.ListN.{get_or-eq_default}
 use Rattle.records.specs.declared.records.Line.{Line}
 use Rattle.records.specs.declared.statements.Statement.{Statement}
 use Rattle.records.specs.declared.statements.UnknownLine.{UnknownLine}
-use Rattle.records.specs.declared.statements.Statement.TheVariants.{Read, Assign, MapRead, Use, If, While}
 use Rattle.records.specs.Statements.{statement}
 use Rattle.table.specs.Description.{entry, no_line}
-use Rattle.rules.specs.Code.{Code, finish, read, assign, map_read, use_of, branch, while, coded, code_within, code}
+use Rattle.rules.specs.Code.{finish, coded, code}
 use Rattle.rules.proofs.Equations.{code_step}
 
 -- the first line, and the code of the others

@@ -20,7 +20,7 @@ use Rattle.objects.specs.declared.frame.Frame.{Frame}
 use Rattle.objects.specs.declared.frame.Frame.TheVariants.{Lines, Rounds, Elements, Counted, Uncounted}
 use Rattle.objects.specs.declared.moves.Move.{Move}
 use Rattle.objects.specs.declared.moves.Move.TheVariants.{Quiet, Give, Begin, Leave}
-use Rattle.objects.specs.Ahead.{Inner, onto, with_names, state, frame_run, content_run, inner_run, code_run, height, wants, Fit, Room, Readable}
+use Rattle.objects.specs.Ahead.{Inner, onto, with_names, state, frame_run, content_run, inner_run, code_run, height, wants, Reads, Uses, Fit, Room, Readable}
 use Rattle.objects.specs.Moves.{Moved}
 use Rattle.objects.proofs.Blocks.{following, while_code}
 
@@ -28,9 +28,9 @@ use Rattle.objects.proofs.Blocks.{following, while_code}
 pub moved_from : (d : Description) (bits : List Bool) (o : Object) {from to : Objects → Run State} (p : ℕ) (r : Result Move ReadingFault) (c : Inner)
     → ((obj : Objects) → from obj ≡ to obj) → Moved d bits o to p r c → Moved d bits o from p r c
 moved_from d bits o p (Ok (Quiet q)) c e m = record { same = λ obj. e obj ∙ m.same obj; fit = m.fit; near = m.near }
-moved_from d bits o p (Ok (Give i q)) c e m = record { same = λ obj. e obj ∙ m.same obj; fit = m.fit; near = m.near }
+moved_from d bits o p (Ok (Give i q)) c e m = record { same = λ obj. e obj ∙ m.same obj; kind = m.kind; ends = m.ends; fit = m.fit; near = m.near }
 moved_from d bits o p (Err f) c e m = record { same = λ obj. e obj ∙ m.same obj; fit = m.fit }
-moved_from d bits o p (Ok (Begin line u index)) c e m = record { same = λ obj. e obj ∙ m.same obj; fit = m.fit; writes = m.writes }
+moved_from d bits o p (Ok (Begin line u index)) c e m = record { same = λ obj. e obj ∙ m.same obj; fit = m.fit; uses = m.uses }
 moved_from d bits o p (Ok Leave) c e m = record { same = λ obj. e obj ∙ m.same obj; fit = m.fit }
 
 -- a number that is not used up
@@ -148,9 +148,9 @@ module _ (d : Description) (bits : List Bool) (o : Object) (c : Inner) (p : ℕ)
     unfolding Fit wants
     element_room f = f
 
-    pub element_name : Fit d (Elements line l index total ∷ c.frames) → l.name ≤ 128
+    pub element_reads : Fit d (Elements line l index total ∷ c.frames) → Reads d line l
     unfolding Fit
-    element_name f = f.1
+    element_reads f = f.1
 
   -- the objects of a counted use
   module _ (line : ℕ) (l : UseLine) (index total : ℕ) where
@@ -171,9 +171,9 @@ module _ (d : Description) (bits : List Bool) (o : Object) (c : Inner) (p : ℕ)
     unfolding Fit wants
     counted_room f = f
 
-    pub counted_name : Fit d (Counted line l index total ∷ c.frames) → l.receiving ≤ 128
+    pub counted_uses : Fit d (Counted line l index total ∷ c.frames) → Uses d line l
     unfolding Fit
-    counted_name f = f.1
+    counted_uses f = f.1
 
   -- the objects of a use without a count
   module _ (line : ℕ) (l : UseLine) (index : ℕ) where
@@ -221,9 +221,9 @@ module _ (d : Description) (bits : List Bool) (o : Object) (c : Inner) (p : ℕ)
     unfolding Fit wants
     to_end_room f = f
 
-    pub to_end_name : Fit d (Uncounted line l index ∷ c.frames) → l.receiving ≤ 128
+    pub to_end_uses : Fit d (Uncounted line l index ∷ c.frames) → Uses d line l
     unfolding Fit
-    to_end_name f = f.1
+    to_end_uses f = f.1
 
   -- the extensions of the object's class
   module _ (none : c.frames ≡ []) where

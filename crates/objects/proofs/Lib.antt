@@ -8,3 +8,5 @@ pub mod NextLines
 pub mod Begins
 pub mod Sames
 pub mod Tries
+pub mod Alikes
+pub mod Owns

@@ -15,7 +15,7 @@ use Rattle.rules.specs.Code.{Code, finish, read, assign, map_read, use_of, code}
 use Rattle.rules.specs.Reading.{Object, Objects, valued, counted, elements, objects, objects_to_end, used, run, write, value_item}
 use Rattle.objects.specs.declared.frame.Frame.{Frame}
 use Rattle.objects.specs.declared.frame.Frame.TheVariants.{Lines, Elements, Counted, Uncounted}
-use Rattle.objects.specs.Ahead.{Inner, onto, with_names, state, frame_run, content_run, inner_run, code_run, height, wants, Fit, Room}
+use Rattle.objects.specs.Ahead.{Inner, onto, with_names, state, frame_run, content_run, inner_run, code_run, height, wants, Reads, Uses, Fit, Room}
 use Rattle.objects.proofs.Blocks.{following, if_code}
 
 -- the lines after a line, as a frame
@@ -59,13 +59,12 @@ module _ (d : Description) (bits : List Bool) (o : Object) (c : Inner) (p : ℕ)
     read_run n e obj =
         rw (← e, add-one, sub-zero) (ap pass (bind_assoc (elements d bits o line l n 0 (state p c)) (run d bits obj o (following d line after)) (content_run d bits obj o c.extension c.frames)))
 
-    pub read_room : (n : ℕ) → l.name ≤ 128 → Room d (read line l (following d line after)) c.frames → Fit d (Elements line l 0 n ∷ Lines (line + 1) after ∷ c.frames)
+    pub read_room : (n : ℕ) → Reads d line l → Room d (read line l (following d line after)) c.frames → Fit d (Elements line l 0 n ∷ Lines (line + 1) after ∷ c.frames)
     unfolding height Fit wants
     read_room n m r =
         let h = r.high in
         (omega arith, m, lines_fit d line after c.frames (record { high = omega arith; fit = r.fit }))
 
-  -- a count, or 1 where no node gives one
   -- an index is read, and its row's output handed out
   module _ (line after map name : ℕ) where
     pub map_fails : (f : Failure) → Err f ≡ mapped bits o.window (map_at d map).width (map_output d map) p → (obj : Objects)
@@ -122,12 +121,12 @@ module _ (d : Description) (bits : List Bool) (o : Object) (c : Inner) (p : ℕ)
         let h = r.high in
         (omega arith, lines_fit d line after c.frames (record { high = omega arith; fit = r.fit }))
 
-    pub counted_room : (n : ℕ) → l.receiving ≤ 128 → Room d (use_of line l (following d line after)) c.frames
+    pub counted_room : (n : ℕ) → Uses d line l → Room d (use_of line l (following d line after)) c.frames
         → Fit d (Counted line l 0 n ∷ Lines (line + 1) after ∷ c.frames)
     unfolding Fit wants
     counted_room n m r = let u = use_room r in (omega (arith, u.0), m, u.1)
 
-    pub to_end_room : l.receiving ≤ 128 → Room d (use_of line l (following d line after)) c.frames
+    pub to_end_room : Uses d line l → Room d (use_of line l (following d line after)) c.frames
         → Fit d (Uncounted line l 0 ∷ Lines (line + 1) after ∷ c.frames)
     unfolding Fit wants
     to_end_room m r = let u = use_room r in (omega (arith, u.0), m, u.1)

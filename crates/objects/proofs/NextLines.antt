@@ -1,9 +1,10 @@
 -- The next of some lines, and what lies ahead.
-use Rattle.std.proofs.Common.{◌≡◌, ℕ, suc, ◌+◌, ◌≤◌, Bool, List, ◌∷◌, length, ap, subst, Option, Some}
+use Rattle.std.proofs.Common.{◌≡◌, ℕ, zero, suc, ◌+◌, ◌≤◌, Bool, List, ◌∷◌, length, ap, subst, arith, Option, Some, None}
 use Rattle.records.specs.Statements.{written}
 use Rattle.records.specs.declared.statements.Statement.{Statement}
-use Rattle.table.specs.Description.{Description, statement_at}
+use Rattle.table.specs.Description.{Description, entry, statement_at}
 use Rattle.rules.specs.Code.{Code, code}
+use Rattle.rules.specs.Order.{used_by, declared_at}
 use Rattle.rules.specs.Reading.{Object, Objects}
 use Rattle.objects.specs.declared.frame.Frame.{Frame}
 use Rattle.objects.specs.declared.frame.Frame.TheVariants.{Lines}
@@ -20,6 +21,19 @@ module _ (d : Description) (at count : ℕ) (k : Code) (e : code d.lines at coun
   unfolding Fit wants
   lines_room fs f = record { high = subst (λ (x : Code). suc (length fs) + height x ≤ 20) e f.0; fit = f.2 }
 
-pub next_named : (d : Description) (at count line after : ℕ) (s : Statement) → IsNext d.lines at count line after s → Readable d → written (Some s) ≤ 128
+pub next_is : (d : Description) (at count line after : ℕ) (s : Statement) → IsNext d.lines at count line after s → statement_at d line ≡ Some s
 unfolding statement_at
-next_named d at count line after s n r = subst (λ (x : Option Statement). written x ≤ 128) n.is (r.names line)
+next_is d at count line after s n = n.is
+
+-- what a line writes is one of 128 names
+pub line_named : (d : Description) (line : ℕ) (s : Statement) → statement_at d line ≡ Some s → Readable d → written (Some s) ≤ 128
+line_named d line s e r = subst (λ (x : Option Statement). written x ≤ 128) e (r.names line)
+
+some_is_not_none : {A : Type 0} {x : A} → None ≡ Some x → ⊥
+some_is_not_none e = let z : ◌≡◌ {A = ℕ} 0 1 = cc in omega arith
+
+-- a line that is there declares the class that it uses
+pub line_declared : (d : Description) (line : ℕ) (s : Statement) → statement_at d line ≡ Some s → declared_at d line ≡ used_by (Some s)
+unfolding statement_at entry
+line_declared d zero s e = absurd (some_is_not_none e)
+line_declared d (suc line) s e = ap used_by e

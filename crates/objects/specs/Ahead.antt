@@ -1,7 +1,12 @@
 -- What lies ahead inside an open object, by what it still has to do.
-use Rattle.std.specs.Prelude.{ℕ, suc, ◌+◌, ◌-◌, ◌≤◌, max, Bool, List, [], ◌∷◌, length, drop}
+use Rattle.std.specs.Prelude.{◌≡◌, ℕ, suc, ◌+◌, ◌-◌, ◌≤◌, max, Bool, List, [], ◌∷◌, length, drop, Option, Some}
+use Rattle.records.specs.declared.statements.ReadLine.{ReadLine}
+use Rattle.records.specs.declared.statements.UseLine.{UseLine}
+use Rattle.records.specs.declared.statements.Statement.{Statement}
+use Rattle.records.specs.declared.statements.Statement.TheVariants.{Read, Use}
 use Rattle.records.specs.Statements.{written}
 use mathlib.Core.HLevel.{Unit-prop, ×₃_prop, Π_prop}
+use Rattle.std.proofs.Props.{props}
 use native.Mathlib.Bridge.{le_prop}
 use Rattle.table.specs.Description.{Description, class_at, extension_at, map_at, statement_at}
 use Rattle.rules.specs.Trace.{Run, bind}
@@ -74,18 +79,25 @@ wants d (Elements line fields index total) = 0
 wants d (Counted line fields index total) = 0
 wants d (Uncounted line fields index) = 0
 
--- the name that a frame writes is one of 128
-abbrev pub Named : Frame → Type 0
-Named (Lines at count) = Unit {0}
-Named (Rounds line node count left) = Unit {0}
-Named (Elements line fields index total) = fields.name ≤ 128
-Named (Counted line fields index total) = fields.receiving ≤ 128
-Named (Uncounted line fields index) = fields.receiving ≤ 128
+-- a line is a read with these fields, or a use
+abbrev pub Reads : Description → (line : ℕ) → ReadLine → Type 0
+Reads d line fields = statement_at d line ≡ Some (Read fields)
 
--- each frame has room above it, and a name to write
+abbrev pub Uses : Description → (line : ℕ) → UseLine → Type 0
+Uses d line fields = statement_at d line ≡ Some (Use fields)
+
+-- a frame's fields are those of its line
+abbrev pub Lined : Description → Frame → Type 0
+Lined d (Lines at count) = Unit {0}
+Lined d (Rounds line node count left) = Unit {0}
+Lined d (Elements line fields index total) = Reads d line fields
+Lined d (Counted line fields index total) = Uses d line fields
+Lined d (Uncounted line fields index) = Uses d line fields
+
+-- each frame has room above it, and the fields of its line
 unfoldable pub Fit : Description → List Frame → Type 0
 Fit d [] = Unit {0}
-Fit d (f ∷ fs) = (suc (length fs) + wants d f ≤ 20) × Named f × Fit d fs
+Fit d (f ∷ fs) = (suc (length fs) + wants d f ≤ 20) × Lined d f × Fit d fs
 
 -- code has room above frames
 pub record Room (d : Description) (k : Code) (fs : List Frame) : Type 0 where
@@ -111,14 +123,17 @@ readable_prop d x y = λ i.
       maps = Π_prop (λ n. le_prop) x.maps y.maps i;
     }
 
-named_prop : (f : Frame) → IsProp (Named f)
-named_prop (Lines at count) = Unit-prop
-named_prop (Rounds line node count left) = Unit-prop
-named_prop (Elements line fields index total) = le_prop
-named_prop (Counted line fields index total) = le_prop
-named_prop (Uncounted line fields index) = le_prop
+statement_set : IsSet (Option Statement)
+statement_set = hlevel props
+
+lined_prop : (d : Description) (f : Frame) → IsProp (Lined d f)
+lined_prop d (Lines at count) = Unit-prop
+lined_prop d (Rounds line node count left) = Unit-prop
+lined_prop d (Elements line fields index total) = statement_set _ _
+lined_prop d (Counted line fields index total) = statement_set _ _
+lined_prop d (Uncounted line fields index) = statement_set _ _
 
 pub fit_prop : (d : Description) (fs : List Frame) → IsProp (Fit d fs)
 unfolding Fit
 fit_prop d [] = Unit-prop
-fit_prop d (f ∷ fs) = ×₃_prop le_prop (named_prop f) (fit_prop d fs)
+fit_prop d (f ∷ fs) = ×₃_prop le_prop (lined_prop d f) (fit_prop d fs)

@@ -4,5 +4,6 @@ pub mod Upcoming
 pub mod Ahead
 pub mod Tries
 pub mod Scenes
+pub mod Likewise
 pub mod Moves
 pub mod Starts

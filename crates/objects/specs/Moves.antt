@@ -1,14 +1,16 @@
 -- What one step inside an open object does.
-use Rattle.std.specs.Prelude.{◌≡◌, ℕ, ◌≤◌, Bool, List, ◌∷◌, Ok, Err, Result, Some}
+use Rattle.std.specs.Prelude.{◌≡◌, ℕ, ◌+◌, ◌≤◌, Bool, List, ◌∷◌, Ok, Err, Result, Some}
 use Rattle.bits.specs.declared.source.Source.{Ghosts}
 use Rattle.records.specs.declared.statements.Statement.{Statement}
-use Rattle.records.specs.Statements.{written}
-use Rattle.table.specs.Description.{Description}
+use Rattle.table.specs.Description.{Description, statement_at}
 use Rattle.rules.specs.declared.faults.ReadingFault.{ReadingFault}
 use Rattle.rules.specs.declared.items.Item.{Item}
+use Rattle.rules.specs.declared.items.Kind.TheVariants.{Value}
 use Rattle.records.specs.declared.statements.UseLine.{UseLine}
 use Rattle.rules.specs.Trace.{Run, out, pass, stop, done, bind}
 use Rattle.rules.specs.Reading.{State, Object, Objects, after_object}
+use Rattle.roundtrip.specs.Own.{end_of}
+use Rattle.roundtrip.specs.Writing.{Straight}
 use Rattle.objects.specs.declared.moves.Move.{Move}
 use Rattle.objects.specs.declared.moves.Move.TheVariants.{Quiet, Give, Begin, Leave}
 use Rattle.rules.specs.Code.{Code, coded, code}
@@ -17,8 +19,14 @@ use Rattle.objects.specs.declared.inside.Inside.{Inside}
 use Rattle.objects.specs.declared.scene.Scene.{Scene}
 use Rattle.objects.specs.declared.upcoming.BlockLine.{BlockLine}
 use Rattle.objects.specs.Frames.{frames}
-use Rattle.objects.specs.Ahead.{Inner, inner_of, object_of, onto, state, content_run, inner_run, code_run, Fit, Room}
+use Rattle.objects.specs.Ahead.{Inner, inner_of, object_of, onto, state, content_run, inner_run, code_run, Uses, Fit, Room}
+use Rattle.objects.specs.Likewise.{Likewise, Bounded}
 use Rattle.objects.specs.Scenes.{described, source_bits}
+
+-- a value's bits are its own, and the reading goes on after them
+pub record OwnEnd (d : Description) (i : Item) (q : ℕ) : Type 0 where
+  pub after : q ≡ end_of d i
+  pub long : i.place + i.length ≡ end_of d i
 
 module _ (d : Description) (bits : List Bool) (o : Object) where
   -- nothing is handed out
@@ -27,8 +35,12 @@ module _ (d : Description) (bits : List Bool) (o : Object) where
     pub fit : Fit d c.frames
     pub near : q ≤ 2147483647
 
+  -- a value is handed out
   pub record Gives (from : Objects → Run State) (i : Item) (q : ℕ) (c : Inner) : Type 0 where
     pub same : (obj : Objects) → from obj ≡ out i (inner_run d bits o c q obj)
+    pub kind : i.kind ≡ Value
+    -- where no line looks ahead, it goes on where the item's own bits end
+    pub ends : Straight d → OwnEnd d i q
     pub fit : Fit d c.frames
     pub near : q ≤ 2147483647
 
@@ -42,7 +54,7 @@ module _ (d : Description) (bits : List Bool) (o : Object) where
         ≡ bind (obj line u.class index o.window p)
         (λ t. content_run d bits obj o c.extension c.frames (after_object u t (state p c)))
     pub fit : Fit d c.frames
-    pub writes : u.receiving ≤ 128
+    pub uses : Uses d line u
 
   -- nothing is left to do
   pub record Leaves (from : Objects → Run State) (p : ℕ) (c : Inner) : Type 0 where
@@ -63,15 +75,17 @@ module _ (d : Description) (st : Statement) (at : BlockLine) where
   abbrev pub line_code : Code
   line_code = coded (Some st) at.line at.after (code d.lines)
 
-  -- it has room above frames, and the name that it writes is one of 128
+  -- it is a line of the description, and has room above frames
   pub record LineRoom (fs : List Frame) : Type 0 where
     pub room : Room d line_code fs
-    pub named : written (Some st) ≤ 128
+    pub is : statement_at d at.line ≡ Some st
 
 module _ {S : Type 0} {g : Ghosts S} (s : Scene S g) where
-  -- a step in a scene, from what lies ahead
-  abbrev pub StepFrom : (from : Objects → Run State) → Result Move ReadingFault → Inside → Type 0
-  StepFrom from r j = Moved (described s) (source_bits s) (object_of s.about) from s.place r (inner_of j)
+  -- a step in a scene, from what lies ahead over some bits: over all bits that agree with the source's as far as it
+  -- looked it does the same, and it goes forward in the window
+  pub record StepFrom (from : List Bool → Objects → Run State) (r : Result Move ReadingFault) (j : Inside) : Type 0 where
+    pub moved : (B : List Bool) → Likewise (source_bits s) B s.place r → Moved (described s) B (object_of s.about) (from B) s.place r (inner_of j)
+    pub bound : s.place ≤ s.about.window.end → Bounded s.place s.about.window.end r
 
   -- a line before what an object has to do fits
   abbrev pub LineFits : Statement → BlockLine → Inside → Type 0
@@ -80,7 +94,7 @@ module _ {S : Type 0} {g : Ghosts S} (s : Scene S g) where
   -- a step of an object that has a line before what it has to do
   abbrev pub LineMoved : Statement → BlockLine → Inside → Result Move ReadingFault → Inside → Type 0
   LineMoved st at i r j =
-      StepFrom (code_run (described s) (source_bits s) (object_of s.about) (line_code (described s) st at) (inner_of i) s.place) r j
+      StepFrom (λ B. code_run (described s) B (object_of s.about) (line_code (described s) st at) (inner_of i) s.place) r j
 
   -- a frame before what an object has to do fits
   abbrev pub FrameFits : Frame → Inside → Type 0
@@ -88,7 +102,7 @@ module _ {S : Type 0} {g : Ghosts S} (s : Scene S g) where
 
   -- a step of an object that has a frame before what it has to do
   abbrev pub FrameMoved : Frame → Inside → Result Move ReadingFault → Inside → Type 0
-  FrameMoved f i r j = StepFrom (inner_run (described s) (source_bits s) (object_of s.about) (onto f (inner_of i)) s.place) r j
+  FrameMoved f i r j = StepFrom (λ B. inner_run (described s) B (object_of s.about) (onto f (inner_of i)) s.place) r j
 
   -- what an object has to do fits
   abbrev pub InsideFits : Inside → Type 0
@@ -96,4 +110,4 @@ module _ {S : Type 0} {g : Ghosts S} (s : Scene S g) where
 
   -- a step of an object as it stands
   abbrev pub InsideMoved : Inside → Result Move ReadingFault → Inside → Type 0
-  InsideMoved i r j = StepFrom (inner_run (described s) (source_bits s) (object_of s.about) (inner_of i) s.place) r j
+  InsideMoved i r j = StepFrom (λ B. inner_run (described s) B (object_of s.about) (inner_of i) s.place) r j

@@ -1,6 +1,11 @@
-use records::statements::{ReadLine, UseLine};
+ghost use Rattle.std.specs.Prelude.{◌≡◌};
+ghost use Rattle.objects.specs.declared.frame.Frame.TheVariants.{Lines};
 
-// What an open object still has to do.
+use records::statements::{ReadLine, UseLine};
+use records::stretches::Stretch;
+
+// What an open object still has to do. Its cases have loose fields and no structs: each is taken apart by the one
+// function that does it, and the definitions of what lies ahead go by its fields.
 #[derive(Clone, Copy)]
 pub enum Frame {
     // `count` lines from the line `at` on
@@ -35,4 +40,16 @@ pub enum Frame {
         fields: UseLine,
         index: u16,
     },
+}
+
+// The lines of a stretch.
+impl From<Stretch> for Frame {
+    ghost from_gives = { λ stretch frame. frame ≡ Lines stretch.first stretch.number };
+
+    fn from(stretch: Stretch) -> Frame {
+        Frame::Lines {
+            at: u32::from(stretch.first),
+            count: stretch.number,
+        }
+    }
 }

@@ -10,7 +10,7 @@ pub const MOST: usize = 20;
 // plain value, and the proofs of `Walk::step` and `Walk::leave` over an array of such did not close.
 #[derive(Clone, Copy)]
 pub struct Frames {
-    pub(crate) room: [Frame; 20],
+    pub(crate) room: [Frame; MOST],
     pub(crate) depth: usize,
 }
 
@@ -20,7 +20,7 @@ impl Frames {
         ensures { frames result ≡ [] }
     {
         Frames {
-            room: [Frame::Lines { at: 0, count: 0 }; 20],
+            room: [Frame::Lines { at: 0, count: 0 }; MOST],
             depth: 0,
         }
     }

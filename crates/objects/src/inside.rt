@@ -1,7 +1,11 @@
 use crate::frames::Frames;
 use rules::steps::Window;
 
-// What stands of an open object from its beginning to its end.
+// As many names as a description may have.
+pub const NAMES: usize = 128;
+
+// What stands of an open object from its beginning to its end. Class and size are 0 for none, as the items that hand
+// them out have them.
 #[derive(Clone, Copy)]
 pub struct About {
     // its class, 0 if the id is unknown
@@ -18,5 +22,5 @@ pub struct Inside {
     pub(crate) frames: Frames,
     pub(crate) extension: usize,
     // in a fixed array, as nothing is allocated after opening
-    pub(crate) names: [i64; 128],
+    pub(crate) names: [i64; NAMES],
 }

@@ -19,6 +19,7 @@ impl Inside {
         requires { LineFits scene.now next.statement next.at self.old }
         ensures { LineMoved scene.now next.statement next.at self.old result self.new }
     {
+        // one match over a closed set, as in `Inside::step`
         let at = next.at;
         match next.statement {
             Statement::Read(fields) => self.read(scene, at, fields),

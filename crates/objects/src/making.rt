@@ -3,28 +3,18 @@ ghost use Rattle.std.specs.Prelude.{◌≡◌, ℕ, ◌≤◌, Bool, List, []};
 ghost use Rattle.table.specs.Description.{description, class_at};
 ghost use Rattle.rules.specs.Reading.{Object, Objects, State, content, write, all_zero};
 ghost use Rattle.values.specs.Names.{named_by};
-ghost use Rattle.objects.specs.declared.frame.Frame.TheVariants.{Lines};
 ghost use Rattle.objects.specs.Frames.{frames};
 ghost use Rattle.objects.specs.Ahead.{Fit, Readable, Inner, inner_of, inner_run, with_names};
 ghost use Rattle.objects.specs.Starts.{Begun};
 
 use crate::frame::Frame;
 use crate::frames::Frames;
-use crate::inside::Inside;
+use crate::inside::{Inside, NAMES};
 use crate::values_of::write;
-use records::records::{Class, Extension};
+use records::records::Extension;
+use records::stretches::Stretch;
 use table::loaded::Loaded;
 use values::evaluate::name_at;
-
-// The lines of a class.
-fn lines_of(class: Class) -> Frame
-    ensures { result ≡ Lines class.first class.number }
-{
-    Frame::Lines {
-        at: class.first as u32,
-        count: class.number,
-    }
-}
 
 impl Inside {
     // An object with nothing to do, but for the extensions from `extension` on.
@@ -34,7 +24,7 @@ impl Inside {
         Inside {
             frames: Frames::new(),
             extension,
-            names: [0; 128],
+            names: [0; NAMES],
         }
     }
 
@@ -50,7 +40,10 @@ impl Inside {
         let own = tables.class(class as usize);
         let base = tables.class(own.base as usize);
         let mut inside = Inside::idle(0);
-        inside.frames.push_both(lines_of(own), lines_of(base));
+        inside.frames.push_both(
+            Frame::from(Stretch::from(own)),
+            Frame::from(Stretch::from(base)),
+        );
         inside
     }
 

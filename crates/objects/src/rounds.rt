@@ -1,6 +1,7 @@
 // One step for each kind of frame but lines.
 ghost use Rattle.std.specs.Prelude.{◌≡◌, ◌≤◌, IfOk, nat_le};
 ghost use Rattle.rules.specs.Steps.{element, next_multiple};
+ghost use Rattle.steps.specs.Took.{Took};
 ghost use Rattle.objects.specs.declared.frame.Frame.TheVariants.{Rounds, Elements, Counted, Uncounted};
 ghost use Rattle.objects.specs.Scenes.{source_bits, node_value};
 ghost use Rattle.objects.specs.Moves.{FrameFits, FrameMoved};
@@ -16,6 +17,7 @@ use bits::source::Source;
 use records::statements::{ReadLine, UseLine};
 use rules::faults::{Failure, ReadingCause, ReadingFault};
 use rules::steps::{Got, Window};
+use steps::bits_taken::next_multiple;
 use values::operators::is_zero;
 
 // Whether the next byte boundary is at or past the window's end.
@@ -23,7 +25,7 @@ fn at_end(window: Window, p: u32) -> bool
     requires { p ≤ 2147483647 }
     ensures { result ≡ nat_le window.end (next_multiple 8 p) }
 {
-    window.end <= (p + 7) / 8 * 8
+    window.end <= next_multiple(8, p)
 }
 
 impl Inside {
@@ -60,7 +62,7 @@ impl Inside {
     // One element of a read.
     fn element<S: Source>(&self, scene: &Scene<S>, fields: ReadLine) -> Result<Got, Failure>
         ensures value { result ≡ element (source_bits scene.now) scene.now.about.window fields (node_value scene.now self.now fields.width) (node_value scene.now self.now fields.lowest) (node_value scene.now self.now fields.highest) scene.now.place }
-        ensures bound { IfOk result (λ g. g.after ≤ scene.now.about.window.end) }
+        ensures bound { IfOk result (λ g. Took scene.now.place scene.now.about.window.end g.place g.length g.after) }
     {
         scene
             .view()

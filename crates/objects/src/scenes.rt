@@ -3,6 +3,7 @@ ghost use Rattle.std.specs.Prelude.{◌≡◌, ◌≤◌, IfOk};
 ghost use Rattle.table.specs.Description.{map_at};
 ghost use Rattle.rules.specs.Lookups.{map_output};
 ghost use Rattle.rules.specs.Steps.{mapped, aligned};
+ghost use Rattle.steps.specs.Took.{Took};
 ghost use Rattle.objects.specs.Scenes.{described, source_bits};
 ghost use Rattle.objects.specs.Tries.{tried};
 
@@ -35,7 +36,7 @@ impl<S: Source> Scene<'_, S> {
     // The index of a map, and its row's output.
     pub(crate) fn mapped(&self, map: u16) -> Result<Got, Failure>
         ensures value { result ≡ mapped (source_bits self.now) self.now.about.window (map_at (described self.now) map).width (map_output (described self.now) map) self.now.place }
-        ensures bound { IfOk result (λ g. g.after ≤ self.now.about.window.end) }
+        ensures bound { IfOk result (λ g. Took self.now.place self.now.about.window.end g.place g.length g.after) }
     {
         let record = self.tables.map(map as usize);
         self.view().map_read(&self.tables.rows, record, self.place)
@@ -44,7 +45,7 @@ impl<S: Source> Scene<'_, S> {
     // The place after alignment to a byte.
     pub(crate) fn aligned(&self) -> Result<u32, Failure>
         ensures value { result ≡ aligned (source_bits self.now) self.now.about.window 8 self.now.place }
-        ensures bound { IfOk result (λ q. q ≤ self.now.about.window.end) }
+        ensures bound { IfOk result (λ q. (self.now.place ≤ q) × (q ≤ self.now.about.window.end)) }
     {
         self.view().aligned(8, self.place)
     }

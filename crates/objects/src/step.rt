@@ -11,6 +11,7 @@ use crate::scene::Scene;
 use crate::upcoming::next_line;
 use bits::source::Source;
 use records::records::Extension;
+use records::stretches::Stretch;
 use rules::faults::ReadingFault;
 use table::record::record_at;
 
@@ -36,10 +37,7 @@ impl Inside {
             self.extension = count;
         } else {
             self.extension = i + 1;
-            self.frames.push(Frame::Lines {
-                at: extension.first as u32,
-                count: extension.number,
-            });
+            self.frames.push(Frame::from(Stretch::from(extension)));
         }
         Ok(Move::Quiet { place: q })
     }

@@ -4,15 +4,14 @@ ghost use Rattle.rules.specs.Steps.{natural};
 ghost use Rattle.values.specs.Names.{named_by};
 ghost use Rattle.objects.specs.Scenes.{described, node_value, node_count};
 
-use crate::inside::Inside;
+use crate::inside::{Inside, NAMES};
 use crate::scene::Scene;
 use bits::source::Source;
-use rules::faults::Failure;
-use steps::numbers::natural;
+use rules::faults::{Failure, ReadingCause};
 use values::evaluate::Scope;
 
 // A value goes to a name; name 0 says none.
-pub fn write(names: &mut [i64; 128], name: u16, value: i64)
+pub fn write(names: &mut [i64; NAMES], name: u16, value: i64)
     requires { name ≤ 128 }
     ensures { named_by names.new ≡ write name value (named_by names.old) }
 {
@@ -46,7 +45,9 @@ impl Inside {
     pub(crate) fn count<S: Source>(&self, scene: &Scene<S>, node: u16) -> Result<u16, Failure>
         ensures { result ≡ natural 65535 (node_value scene.now self.now node) }
     {
-        Ok(natural(65535, self.value(scene, node)?)? as u16)
+        u16::try_from(self.value(scene, node)?)
+            .ok()
+            .ok_or(ReadingCause::WidthOrCount.into())
     }
 
     // The same; without a node the count is 1.

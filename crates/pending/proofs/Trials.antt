@@ -94,7 +94,8 @@ module _ (L place w v : ℕ) where
       got (trial_bits L place w v) p n r few (rw length_trial (omega arith)) (e ∙ (mod_mod A 64 n (omega arith) ∙ sym (number_trial p n (omega arith))))
       ∙ sym (get_limited (trial_bits L place w v) p n (omega arith))
 
--- the bits of a trial are the guess of an item that has those own bits there
+-- The bits of a trial are the guess of an item that has those own bits there. This and the next are for the crate that
+-- puts items, which stands above this one.
 pub trial_pending : (d : Description) (i : Item) (L place w v : ℕ) → L ≤ longest → place ≡ i.place → bits_of w v ≡ own_bits d i →
     limited (trial_bits L place w v) ≡ pending d L i
 unfolding trial_bits pending

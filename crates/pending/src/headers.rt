@@ -17,6 +17,9 @@ const THREE_BYTES: u32 = 2_097_152;
 
 const FOUR_BYTES: u32 = 268_435_456;
 
+// What the byte of seven bits of a size has besides where another follows.
+const MORE: u32 = 128;
+
 // The bits of one number, and then those of another.
 fn joined(high: Own, low: Own) -> Own
     requires wide { high.width + low.width ≤ 48 }
@@ -42,26 +45,27 @@ fn byte(value: u32) -> Own
     }
 }
 
-// The bits of a size, in the fewest bytes.
+// The bits of a size, in the fewest bytes. Case by case, as the definition goes: a loop over at most three more bytes
+// would be as long, with its measure and its bounds.
 fn size_bits(size: u32) -> Own
     requires { size < 268435456 }
     ensures bits { bits_of result.width result.value ≡ size_code size }
     ensures width { result.width ≤ 32 }
     ensures small { result.value < 2 ^ result.width }
 {
-    let one = byte(size % 128);
+    let one = byte(size % ONE_BYTE);
     if size < ONE_BYTE {
         return one;
     }
-    let two = joined(byte(128 + size / 128 % 128), one);
+    let two = joined(byte(MORE + size / ONE_BYTE % ONE_BYTE), one);
     if size < TWO_BYTES {
         return two;
     }
-    let three = joined(byte(128 + size / 16384 % 128), two);
+    let three = joined(byte(MORE + size / TWO_BYTES % ONE_BYTE), two);
     if size < THREE_BYTES {
         return three;
     }
-    joined(byte(128 + size / 2097152), three)
+    joined(byte(MORE + size / THREE_BYTES), three)
 }
 
 // The bits of the beginning of an object of a declared class: the id in a family, the size if expandable.

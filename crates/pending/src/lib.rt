@@ -6,7 +6,6 @@
 #![tactic(auto)]
 
 mod headers;
-mod lookups;
 mod maps;
 pub mod own;
 pub mod store;

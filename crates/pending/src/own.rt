@@ -3,10 +3,9 @@ ghost use Rattle.roundtrip.specs.Own.{own_bits, Sensible};
 ghost use Rattle.pending.specs.Owned.{Answers, Narrow};
 
 use crate::headers::header_bits;
-use crate::lookups::declared_at;
 use crate::values_of::value_bits;
 use rules::items::{Item, Kind};
-use rules::lookups::greatest;
+use rules::lookups::{declared_at, greatest};
 use table::loaded::Loaded;
 
 // Bits as a number: the `width` lowest bits of `value`.

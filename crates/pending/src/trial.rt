@@ -36,6 +36,7 @@ impl Source for Trial {
 fn lowest(value: u64, n: u32) -> u64
     ensures { result ≡ value % 2 ^ n }
 {
+    // by a match: in `map_or` the part with a power is a closure, which does not know that it is above 0
     match 1u64.checked_shl(n) {
         Some(above) => value & (above - 1),
         None => value,

@@ -45,6 +45,10 @@ pub inner_end : (d : Description) (bits : List Bool) (g : ℕ) (h : Header) (w :
 inner_end d bits zero h w l = omega arith
 inner_end d bits (suc g) h w l = l
 
+pub inner-after : (d : Description) (bits : List Bool) (g : ℕ) (h : Header) (w : Window) → h.after + 8 * h.size ≤ w.end → h.after ≤ (inner d bits g h w).end
+inner-after d bits zero h w l = omega arith
+inner-after d bits (suc g) h w l = omega arith
+
 module _ (d : Description) (bits : List Bool) where
   -- an object inside others, by what it has to do
   abbrev pub within_others : Opened → Inner → List OpenObject → ℕ → Run (Unit {0})

@@ -1,5 +1,6 @@
 -- A table that is being filled.
-use Rattle.std.proofs.Common.{◌≡◌, ℕ, suc, ◌+◌, ◌-◌, ◌<◌, ◌≤◌, List, [], ◌∷◌, ◌++◌, length, take, drop, set, sym, refl, ap, ◌∙◌, ap₂, append_assoc, append-nil, arith, length-set, take-append-drop, length-take-le}
+use Rattle.std.proofs.Common.{◌≡◌, ℕ, suc, ◌+◌, ◌-◌, ◌<◌, ◌≤◌, List, [], ◌∷◌, ◌++◌, length, take, drop, set, Some, Option, sym, refl, ap, ◌∙◌, ap₂, append_assoc, append-nil, arith, length-set, take-append-drop, length-take-le}
+use native.Mathlib.Nat.{sub-zero}
 use Rattle.std.proofs.lemmas.List.{drop-drop, drop-set-lt, take_more_set}
 use Rattle.rules.specs.declared.items.Item.{Item}
 use Rattle.rules.specs.declared.faults.ReadingFault.{ReadingFault}
@@ -7,6 +8,7 @@ use Rattle.rules.specs.Trace.{Run, out, pass, stop, done}
 use Rattle.reading.specs.declared.next.Filled.{Filled}
 use Rattle.reading.specs.declared.next.Filled.TheVariants.{Full, End, Refused}
 use Rattle.reading.specs.Reads.{skipped}
+use Rattle.reading.specs.Positions.{latest}
 use Rattle.reading.specs.Fills.{first_items, ends_as, ahead_after, Fills}
 
 skip_items : (m : ℕ) (t : Run (Unit {0})) → first_items (suc m) t ≡ first_items (suc m) (skipped t)
@@ -31,20 +33,33 @@ skip_after m (stop f) = refl
 skip_after m (done u) = refl
 
 -- after so many items, with more room to fill
-pub record Filling (before : Run (Unit {0})) (table : List Item) (count : ℕ) (filled : List Item) (now : Run (Unit {0})) : Type 0 where
+pub record Filling (before : Run (Unit {0})) (first : Option Item) (table : List Item) (count : ℕ) (filled : List Item) (now : Run (Unit {0})) (last : Option Item) : Type 0 where
   pub few : count ≤ length table
   pub long : length filled ≡ length table
   pub items : first_items (length table) before ≡ take count filled ++ first_items (length table - count) now
   pub others : drop count filled ≡ drop count table
   pub ends : ends_as (length table) before ≡ ends_as (length table - count) now
   pub after : ahead_after (length table) before ≡ ahead_after (length table - count) now
+  pub latest_is : latest first (first_items (length table) before) ≡ latest last (first_items (length table - count) now)
 
-module _ (before : Run (Unit {0})) (table : List Item) (count : ℕ) (filled : List Item) (now : Run (Unit {0})) (f : Filling before table count filled now) where
+pub filling_starts : (before : Run (Unit {0})) (first : Option Item) (table : List Item) → Filling before first table 0 table before first
+filling_starts before first table =
+    record {
+      few = omega arith;
+      long = refl;
+      items = rw sub-zero refl;
+      others = refl;
+      ends = rw sub-zero refl;
+      after = rw sub-zero refl;
+      latest_is = rw sub-zero refl;
+    }
+
+module _ (before : Run (Unit {0})) (first : Option Item) (table : List Item) (count : ℕ) (filled : List Item) (now : Run (Unit {0})) (last : Option Item) (f : Filling before first table count filled now last) where
   module _ (room : count < length table) where
     left : length table - count ≡ suc (length table - (count + 1))
     left = omega arith
 
-    pub filling_goes : (i : Item) (then : Run (Unit {0})) → skipped now ≡ out i then → Filling before table (count + 1) (set filled count i) then
+    pub filling_goes : (i : Item) (then : Run (Unit {0})) → skipped now ≡ out i then → Filling before first table (count + 1) (set filled count i) then (Some i)
     unfolding first_items ends_as ahead_after
     filling_goes i then e =
         let m = length table - (count + 1) in
@@ -64,6 +79,7 @@ module _ (before : Run (Unit {0})) (table : List Item) (count : ℕ) (filled : L
               ∙ sym (drop-drop 1 count filled) ∙ ap (drop 1) f.others ∙ drop-drop 1 count table;
           ends = f.ends ∙ ap (λ n. ends_as n now) left ∙ skip_ends m now ∙ ap (ends_as (suc m)) e;
           after = f.after ∙ ap (λ n. ahead_after n now) left ∙ skip_after m now ∙ ap (ahead_after (suc m)) e;
+          latest_is = f.latest_is ∙ ap (λ n. latest last (first_items n now)) left ∙ ap (latest last) (skip_items m now ∙ ap (first_items (suc m)) e);
         }
 
   closes : (how : Filled) (then : Run (Unit {0})) → first_items (length table - count) now ≡ [] → ends_as (length table - count) now ≡ how
@@ -105,3 +121,22 @@ module _ (before : Run (Unit {0})) (table : List Item) (count : ℕ) (filled : L
         (ap (λ n. first_items n now) more ∙ skip_items m now ∙ ap (first_items (suc m)) e)
         (ap (λ n. ends_as n now) more ∙ skip_ends m now ∙ ap (ends_as (suc m)) e)
         (ap (λ n. ahead_after n now) more ∙ skip_after m now ∙ ap (ahead_after (suc m)) e ∙ sym d)
+
+    no_more : {then : Run (Unit {0})} → skipped now ≡ then → ((m : ℕ) → first_items (suc m) then ≡ []) → last ≡ latest first (first_items (length table) before)
+    no_more e z =
+        let m = length table - (count + 1) in
+        sym (f.latest_is ∙ ap (λ n. latest last (first_items n now)) more ∙ ap (latest last) (skip_items m now ∙ ap (first_items (suc m)) e ∙ z m))
+
+    pub last_end : skipped now ≡ done tt → last ≡ latest first (first_items (length table) before)
+    unfolding first_items
+    last_end e = no_more e (λ m. refl)
+
+    pub last_refused : (g : ReadingFault) → skipped now ≡ stop g → last ≡ latest first (first_items (length table) before)
+    unfolding first_items
+    last_refused g e = no_more e (λ m. refl)
+
+  pub last_full : length table ≤ count → last ≡ latest first (first_items (length table) before)
+  unfolding first_items
+  last_full h =
+      let z : length table - count ≡ 0 = omega arith in
+      sym (f.latest_is ∙ ap (λ n. latest last (first_items n now)) z)

@@ -1,8 +1,12 @@
 mod Members
 mod Endings
+mod BitAt
 mod Entering
-mod Stepping
+pub mod Stepping
+pub mod Taking
 mod Turns
+pub mod Enclosing
+mod Opening
 mod Nexts
 mod Filling
-mod Heights
+pub mod Heights

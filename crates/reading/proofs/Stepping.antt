@@ -1,11 +1,9 @@
 -- The open objects, through what is done to them.
-use Rattle.std.proofs.Common.{Some, None, Option, Ok, Err, Result, ◌≡◌, ℕ, zero, suc, ◌-◌, ◌<◌, ◌≤◌, min, Bool, true, false, cond, not, ◌&&◌, ◌||◌, eqb, ltb, ◌≢◌, List, [], ◌∷◌, length, get_or, drop, set, sym, refl, ap, ◌∙◌, subst, ap₂, arith, get_or-set_same}
+use Rattle.std.proofs.Common.{Some, None, Option, Ok, Err, ◌≡◌, ℕ, zero, suc, ◌-◌, ◌<◌, ◌≤◌, min, Bool, true, false, cond, not, ◌&&◌, ◌||◌, eqb, ltb, ◌≢◌, List, [], ◌∷◌, length, get_or, drop, set, sym, refl, ap, ◌∙◌, subst, ap₂, arith, get_or-set_same}
 use Rattle.std.proofs.lemmas.Bool.Decides.{nat_tests}
 use Rattle.bits.specs.Bits.{number}
 use Rattle.table.specs.Description.{Description}
 use Rattle.rules.specs.declared.faults.ReadingCause.TheVariants.{BitsLeft}
-use Rattle.rules.specs.declared.faults.ReadingFault.{ReadingFault}
-use Rattle.rules.specs.declared.items.Item.{Item}
 use Rattle.rules.specs.Trace.{Run, done, stop}
 use Rattle.rules.specs.Checks.{attempt, ensure, fault}
 use Rattle.rules.specs.Steps.{at_end}
@@ -21,7 +19,7 @@ use Rattle.reading.specs.declared.open_object.Using.{Using}
 use Rattle.reading.specs.declared.open_object.OpenObject.{OpenObject}
 use Rattle.reading.specs.declared.walk.Walk.{Walk}
 use Rattle.reading.specs.Pushes.{Pushed, around}
-use Rattle.reading.specs.Walks.{by_none, no_object, objects_of, rest, rest_from, walk_ahead, AllFit, Sound, Answered, beginning, received}
+use Rattle.reading.specs.Walks.{by_none, no_object, objects_of, rest, rest_from, walk_ahead, Answer, AllFit, Sound, Answered, Turned, beginning, received}
 use Rattle.reading.proofs.Entering.{one_receives}
 
 pub known_class : (c g : ℕ) → c ≢ 0 → (not (eqb c 0) || not (eqb g 0)) ≡ true
@@ -80,17 +78,21 @@ unfolding tops
 around_next xs zero h = absurd (omega arith)
 around_next xs (suc i) h = let z : suc i - 1 ≡ i = omega arith in rw z refl
 
+-- fewer than eight bits, all 0, are left
+abbrev pub well_ended : List Bool → ℕ → Bool
+well_ended bits p = ltb (length bits - p) 8 && eqb (number (drop p bits)) 0
+
 -- the end
 module _ (d : Description) (bits : List Bool) (w : Walk) (begun : w.started ≡ true) (none : objects_of w ≡ []) where
   ended : walk_ahead d bits w ≡ attempt 0 w.place (at_end bits w.place) done
   unfolding rest_from
   ended = begun_ahead d bits w begun ∙ ap (λ (os : List OpenObject). rest d bits os w.place) none
 
-  pub ends_well : (ltb (length bits - w.place) 8 && eqb (number (drop w.place bits)) 0) ≡ true → walk_ahead d bits w ≡ done tt
+  pub ends_well : well_ended bits w.place ≡ true → walk_ahead d bits w ≡ done tt
   unfolding attempt at_end ensure
   ends_well t = ended ∙ rw t refl
 
-  pub ends_short : (ltb (length bits - w.place) 8 && eqb (number (drop w.place bits)) 0) ≡ false → walk_ahead d bits w ≡ stop (fault BitsLeft 0 0 w.place)
+  pub ends_short : well_ended bits w.place ≡ false → walk_ahead d bits w ≡ stop (fault BitsLeft 0 0 w.place)
   unfolding attempt at_end ensure
   ends_short t = ended ∙ rw t refl
 
@@ -120,10 +122,14 @@ pub ahead_of : (d : Description) (bits : List Bool) (v : Walk) (os : List OpenOb
 ahead_of d bits v os q s e p = λ i. cond (s i) (rest d bits (e i) (p i)) (reading d bits)
 
 -- the same step from what lies ahead in other words
-pub answered_from : (d : Description) (bits : List Bool) {from to : Run (Unit {0})} (r : Result (Option Item) ReadingFault) (w : Walk) → from ≡ to → Answered d bits to r w → Answered d bits from r w
+answered_from : (d : Description) (bits : List Bool) {from to : Run (Unit {0})} (r : Answer) (w : Walk) → from ≡ to → Answered d bits to r w → Answered d bits from r w
 answered_from d bits (Ok (Some i)) w e t = record { same = e ∙ t.same; sound = t.sound }
 answered_from d bits (Ok None) w e t = record { same = e ∙ t.same; still = t.still; sound = t.sound }
 answered_from d bits (Err f) w e t = record { same = e ∙ t.same; sound = t.sound }
+
+pub turned_from : (d : Description) (bits : List Bool) {from to : Run (Unit {0})} (r : Option Answer) (w : Walk) → from ≡ to → Turned d bits to r w → Turned d bits from r w
+turned_from d bits None w e t = record { same = e ∙ t.same; sound = t.sound }
+turned_from d bits (Some a) w e t = answered_from d bits a w e t
 
 pub start_run : (d : Description) (bits : List Bool) (os : List OpenObject) (n : ℕ) → os ≡ [] → n ≡ length bits
     → reading d bits ≡ beginning d bits os (by_none d.top) (record { end = n; object = false }) 0

@@ -80,13 +80,13 @@ module _ (d : Description) (bits : List Bool) (w : Walk) (i : ℕ) (e : min w.de
           sound = changed_sound j w.place m.fit (sound_near d w sound);
         }
 
-    pub turned_begin : (line : ℕ) (u : UseLine) (index : ℕ) (v : Window) → v ≡ capped (length bits) it.opened.about.window
-        → (m : moves.Begins d bits (object_of (seen (length bits) it.opened).about) before w.place line u index (inner_of j))
-        → walk_ahead d bits w ≡ beginning d bits (objects_of (changed j w.place)) (using_of line u index m.writes) v w.place
-    turned_begin line u index v k m =
+    pub turned_begin : (line : ℕ) (u : UseLine) (index : ℕ) (named : u.receiving ≤ 128) (v : Window) → v ≡ capped (length bits) it.opened.about.window
+        → moves.Begins d bits (object_of (seen (length bits) it.opened).about) before w.place line u index (inner_of j)
+        → walk_ahead d bits w ≡ beginning d bits (objects_of (changed j w.place)) (using_of line u index named) v w.place
+    turned_begin line u index named v k m =
         ahead
-        ∙ begins_in d bits it.opened os w.place (inner_of it.inside) j line u index m.writes m.same
-        ∙ sym (λ t. beginning d bits (objects_are j w.place t) (using_of line u index m.writes) (k t) w.place)
+        ∙ begins_in d bits it.opened os w.place (inner_of it.inside) j line u index named m.same
+        ∙ sym (λ t. beginning d bits (objects_are j w.place t) (using_of line u index named) (k t) w.place)
 
     pub turned_leave : (a : Opened) → a ≡ seen (length bits) it.opened → length bits ≤ 2147483647
         → moves.Leaves d bits (object_of (seen (length bits) it.opened).about) before w.place (inner_of j)

@@ -1,5 +1,5 @@
 -- What is done to the open objects.
-use Rattle.std.specs.Prelude.{◌≡◌, ℕ, ◌≤◌, Bool, true, List, ◌∷◌, length, slice_index_or}
+use Rattle.std.specs.Prelude.{◌≡◌, ℕ, ◌-◌, ◌<◌, ◌≤◌, min, Bool, true, List, ◌∷◌, length, slice_index_or, Some, None, Option}
 use Rattle.table.specs.Description.{Description}
 use Rattle.rules.specs.Trace.{Run, out}
 use Rattle.rules.specs.Reading.{State, close_item, closed}
@@ -8,12 +8,28 @@ use Rattle.objects.specs.Ahead.{inner_of, state}
 use Rattle.reading.specs.declared.open_object.Opened.{Opened}
 use Rattle.reading.specs.declared.open_object.OpenObject.{OpenObject}
 use Rattle.reading.specs.declared.walk.Walk.{Walk}
-use Rattle.reading.specs.Walks.{objects_of, no_object, capped, seen, received, rest_from, AllFit}
+use Rattle.reading.specs.Walks.{Answer, objects_of, no_object, capped, seen, received, rest_from, AllFit}
+
+-- the objects below number n stay
+abbrev pub Kept : (n : ℕ) → (before after : Walk) → Type 0
+Kept n v w = (j : ℕ) → j < n → slice_index_or w.objects j no_object ≡ slice_index_or v.objects j no_object
+
+-- as many objects are open, and those around the innermost stay
+pub record Still (before after : Walk) : Type 0 where
+  pub started : after.started ≡ true
+  pub depth : after.depth ≡ before.depth
+  pub kept : Kept (min before.depth 16 - 1) before after
+
+-- what a step leaves: where nothing is handed out all but the innermost object, else all but that and the one around it
+abbrev pub Leaves : (before : Walk) → Option Answer → (after : Walk) → Type 0
+Leaves v None w = v.started ≡ true → Still v w
+Leaves v (Some a) w = v.started ≡ true → Kept (min v.depth 16 - 2) v w
 
 pub record Pushed (a : OpenObject) (p : ℕ) (before after : Walk) : Type 0 where
   pub objects : objects_of after ≡ a ∷ objects_of before
   pub place : after.place ≡ p
   pub started : after.started ≡ true
+  pub kept : Kept before.depth before after
 
 -- the objects around number i
 abbrev pub around : List OpenObject → ℕ → List OpenObject

@@ -1,11 +1,13 @@
 -- What lies ahead of a reading, by its open objects.
-use Rattle.std.specs.Prelude.{◌≡◌, ℕ, ◌-◌, ◌≤◌, min, Bool, false, cond, List, [], ◌∷◌, length, Some, None, Option, Ok, Err, Result}
+use Rattle.std.specs.Prelude.{◌≡◌, ℕ, ◌+◌, ◌-◌, ◌≤◌, min, Bool, true, false, cond, List, [], ◌∷◌, length, Some, None, Option, Ok, Err, Result}
 use Rattle.std.proofs.Common.{arith}
 use mathlib.Core.HLevel.{Unit-prop, ×_prop}
 use native.Mathlib.Bridge.{le_prop}
 use Rattle.table.specs.Description.{Description}
 use Rattle.rules.specs.declared.faults.ReadingFault.{ReadingFault}
 use Rattle.rules.specs.declared.items.Item.{Item}
+use Rattle.rules.specs.declared.items.Kind.{Kind}
+use Rattle.rules.specs.declared.items.Kind.TheVariants.{Value, Open, Close}
 use Rattle.rules.specs.declared.steps.Window.{Window}
 use Rattle.rules.specs.Trace.{Run, out, pass, stop, done, bind}
 use Rattle.rules.specs.Checks.{attempt}
@@ -13,14 +15,22 @@ use Rattle.rules.specs.Steps.{at_end}
 use Rattle.rules.specs.Values.{Names}
 use Rattle.rules.specs.Reading.{State, write, all_zero, close_item, closed, object, reading}
 use Rattle.values.specs.Names.{named_by}
+use Rattle.roundtrip.specs.Own.{end_of}
+use Rattle.roundtrip.specs.Standing.{Fits}
+use Rattle.roundtrip.specs.Writing.{Straight}
 use Rattle.objects.specs.declared.inside.About.{About}
 use Rattle.objects.specs.Tops.{tops}
 use Rattle.objects.specs.Frames.{frames}
 use Rattle.objects.specs.Ahead.{Fit, fit_prop, object_of, content_run}
+use Rattle.objects.specs.Likewise.{Alike}
 use Rattle.reading.specs.declared.open_object.Using.{Using}
 use Rattle.reading.specs.declared.open_object.Opened.{Opened}
 use Rattle.reading.specs.declared.open_object.OpenObject.{OpenObject}
 use Rattle.reading.specs.declared.walk.Walk.{Walk}
+
+-- what a reading answers: an item, or none at the end, or why the source is refused
+abbrev pub Answer : Type 0
+Answer = Result (Option Item) ReadingFault
 
 -- an object of a class that no line uses
 abbrev pub by_none : (class : ℕ) → Using
@@ -114,12 +124,95 @@ module _ (d : Description) (bits : List Bool) where
     pub sound : Sound d w
 
   -- an answer from what lies ahead
-  abbrev pub Answered : Run (Unit {0}) → Result (Option Item) ReadingFault → Walk → Type 0
+  abbrev pub Answered : Run (Unit {0}) → Answer → Walk → Type 0
   Answered from (Ok (Some i)) w = Gives from i w
   Answered from (Ok None) w = Ends from w
   Answered from (Err f) w = Refuses from f w
 
   -- one step from it, which may hand out nothing
-  abbrev pub Turned : Run (Unit {0}) → Option (Result (Option Item) ReadingFault) → Walk → Type 0
+  abbrev pub Turned : Run (Unit {0}) → Option Answer → Walk → Type 0
   Turned from None w = Quietly from w
   Turned from (Some a) w = Answered from a w
+
+-- where a walk takes its next bits; one that has not begun at 0
+abbrev pub from_of : Walk → ℕ
+from_of w = cond w.started w.place 0
+
+-- how far a step that hands out an item looks: of a value up to its end, else up to where the reading then stands
+abbrev pub looked_to : Kind → (place length after : ℕ) → ℕ
+looked_to Value place length after = place + length
+looked_to Open place length after = after
+looked_to Close place length after = after
+
+-- the bits over which a step from p does as it did: what it looked at is the same
+abbrev pub Likewise : (bits B : List Bool) → (p : ℕ) → Option Answer → Walk → Type 0
+Likewise bits B p None w = Alike bits B p w.place
+Likewise bits B p (Some (Ok (Some i))) w = Alike bits B p (looked_to i.kind i.place i.length w.place)
+Likewise bits B p (Some (Ok None)) w = B ≡ bits
+Likewise bits B p (Some (Err f)) w = B ≡ bits
+
+-- a place lies in the innermost window, and each window in the one around it, the outermost in L bits
+abbrev pub Enclosed : (L : ℕ) → List OpenObject → (p : ℕ) → Type 0
+Enclosed L [] p = p ≤ L
+Enclosed L (a ∷ os) p = (p ≤ a.opened.about.window.end) × Enclosed L os a.opened.about.window.end
+
+abbrev pub EnclosedOnce : (begun : Bool) → (L : ℕ) → List OpenObject → (p : ℕ) → Type 0
+EnclosedOnce true L os p = Enclosed L os p
+EnclosedOnce false L os p = Unit {0}
+
+-- a walk stands in its windows, once it has begun
+abbrev pub EnclosedWalk : (L : ℕ) → Walk → Type 0
+EnclosedWalk L w = EnclosedOnce w.started L (objects_of w) w.place
+
+-- a walk stands in its windows, at or after p
+pub record Within (L p : ℕ) (w : Walk) : Type 0 where
+  pub begun : w.started ≡ true
+  pub ahead : p ≤ w.place
+  pub enclosed : Enclosed L (objects_of w) w.place
+
+-- it has handed out an item, which begins at or after p; it stands at or after the item's place, and no further than
+-- it looked, which is within the L bits
+pub record Handed (L p : ℕ) (i : Item) (w : Walk) : Type 0 where
+  pub within : Within L p w
+  pub ahead : p ≤ i.place
+  pub kept : i.place ≤ w.place
+  pub most : w.place ≤ looked_to i.kind i.place i.length w.place
+  pub end : looked_to i.kind i.place i.length w.place ≤ L
+
+-- a step from p moves forward, and keeps within the windows
+abbrev pub Bounded : (L p : ℕ) → Option Answer → Walk → Type 0
+Bounded L p None w = Within L p w
+Bounded L p (Some (Ok (Some i))) w = Handed L p i w
+Bounded L p (Some (Ok None)) w = Unit {0}
+Bounded L p (Some (Err f)) w = Unit {0}
+
+-- a walk has handed out an item, and stands and has looked to where the item's own bits end
+pub record OwnEnd (d : Description) (i : Item) (w : Walk) : Type 0 where
+  pub after : w.place ≡ end_of d i
+  pub looked : looked_to i.kind i.place i.length w.place ≡ end_of d i
+
+-- over bits that have what putting the item at p appends
+abbrev pub OwnEnds : Description → List Bool → (p : ℕ) → Option Answer → Walk → Type 0
+OwnEnds d bits p None w = Unit {0}
+OwnEnds d bits p (Some (Ok (Some i))) w = Fits d p i bits → OwnEnd d i w
+OwnEnds d bits p (Some (Ok None)) w = Unit {0}
+OwnEnds d bits p (Some (Err f)) w = Unit {0}
+
+-- a step of a walk that took its bits from p on, from what lay ahead over some bits
+pub record Walked (d : Description) (bits : List Bool) (p : ℕ) (from : List Bool → Run (Unit {0})) (inside : Type 0)
+    (r : Option Answer) (w : Walk) : Type 0 where
+  -- over all bits that agree with these as far as it looked it does the same
+  pub moved : (B : List Bool) → Likewise bits B p r w → Turned d B (from B) r w
+  -- where it was inside its windows, it goes forward in them
+  pub bound : inside → Bounded (length bits) p r w
+  -- where no line looks ahead, it goes on where the item's own bits end
+  pub ends : Straight d → OwnEnds d bits p r w
+
+-- an object begins in those of a walk
+abbrev pub Begins : Description → List Bool → Using → Window → (before : Walk) → Answer → (after : Walk) → Type 0
+Begins d bits used v before r after =
+    Walked d bits before.place (λ B. beginning d B (objects_of before) used v before.place) (Enclosed (length bits) (objects_of before) v.end) (Some r) after
+
+-- a step of a walk
+abbrev pub Stepped : Description → List Bool → (before : Walk) → Option Answer → (after : Walk) → Type 0
+Stepped d bits before r after = Walked d bits (from_of before) (λ B. walk_ahead d B before) (EnclosedWalk (length bits) before) r after

@@ -4,7 +4,9 @@
 mod ending;
 mod lookups;
 pub mod next;
+pub mod offering;
 pub mod open_object;
+mod positions;
 pub mod state;
 pub mod walk;
 mod walking;

@@ -30,7 +30,7 @@ fn member_index(classes: &[Class], base: u16, id: u16) -> Option<usize>
         .position(|class| is_member_with(base, id, *class))
 }
 
-// The number of the first member of a family with an id, 0 if there is none.
+// The number of the first member of a family with an id, 0 if there is none. No Option: `object_class` hands the 0 on.
 fn first_member(classes: &[Class], base: u16, id: u16) -> u16
     requires { length classes.now ≤ 65535 }
     ensures { result ≡ first_member classes.now base id }

@@ -5,6 +5,7 @@ ghost use Rattle.reading.specs.Walks.{Sound, sound_prop};
 use crate::walk::Walk;
 use bits::source::Source;
 use rules::faults::ReadingFault;
+use rules::items::Item;
 use table::loaded::Loaded;
 
 // A reading of a source by a checked description.
@@ -14,7 +15,8 @@ pub struct Reading<'d, S: Source> {
     pub(crate) source: S,
     pub(crate) walk: Walk,
     pub(crate) fault: Option<ReadingFault>,
-    pub(crate) position: u64,
+    // the last item handed out
+    pub(crate) last: Option<Item>,
     ghost readable: { Readable (description tables.now) } by { readable_prop (description tables.now) },
     ghost sound: { Sound (description tables.now) walk } by { sound_prop (description tables.now) walk },
 }

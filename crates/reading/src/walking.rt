@@ -1,18 +1,19 @@
 // One step of a reading.
-ghost use Rattle.std.specs.Prelude.{◌≡◌, suc, ◌+◌, ◌*◌, ◌<◌, ◌≤◌, min, Bool, true, List, [], ◌∷◌, length, if◌then◌else◌, Ok, nat_eq};
+ghost use Rattle.std.specs.Prelude.{◌≡◌, suc, ◌+◌, ◌-◌, ◌*◌, ◌<◌, ◌≤◌, min, Bool, true, false, List, [], ◌∷◌, length, if◌then◌else◌, Ok, Some, nat_eq};
 ghost use Rattle.table.specs.Description.{Description, description, class_at};
 ghost use Rattle.rules.specs.Lookups.{greatest as greatest_in};
+ghost use Rattle.rules.specs.Order.{declared_at};
 ghost use Rattle.rules.specs.Trace.{Run};
 ghost use Rattle.rules.specs.Reading.{open_item, close_item, inner as inner_window, reading};
 ghost use Rattle.rules.specs.Steps.{header as header_at};
 ghost use Rattle.objects.specs.Ahead.{Readable};
-ghost use Rattle.reading.specs.Walks.{by_none, objects_of, cut, beginning, rest, walk_ahead, Sound, Answered, Turned};
-ghost use Rattle.reading.specs.Pushes.{Pushed, Leaving};
+ghost use Rattle.reading.specs.Walks.{by_none, objects_of, cut, walk_ahead, Sound, Enclosed, Walked, Begins, Stepped};
+ghost use Rattle.reading.specs.Pushes.{Pushed, Leaving, Kept, Leaves};
 
 use crate::ending::at_end;
 use crate::lookups::object_class;
 use crate::open_object::{OpenObject, Opened, Using};
-use crate::walk::{Answer, Walk};
+use crate::walk::{Answer, MOST, Walk};
 use bits::source::Source;
 use objects::inside::{About, Inside};
 use objects::moves::Move;
@@ -23,9 +24,6 @@ use rules::lookups::greatest;
 use rules::steps::{Header, Window};
 use steps::view::View;
 use table::loaded::Loaded;
-
-// As many objects as may be open at once.
-const MOST: usize = 16;
 
 // An object of a class that no line uses.
 fn used_by_none(class: u16) -> Using
@@ -122,8 +120,8 @@ fn close_item(opened: Opened, place: u32) -> Item
 // and handed on with its source.
 impl Walk {
     // A reading that has not begun.
-    pub(crate) fn new() -> Walk
-        ensures { (((d : Description) (bits : List Bool) → walk_ahead d bits result ≡ reading d bits)) × (((d : Description) → Sound d result)) }
+    pub fn new() -> Walk
+        ensures { (((d : Description) (bits : List Bool) → walk_ahead d bits result ≡ reading d bits)) × (((d : Description) → Sound d result)) × (result.started ≡ false) }
     {
         let window = Window {
             end: 0,
@@ -143,7 +141,7 @@ impl Walk {
             inside: Inside::idle(0),
         };
         Walk {
-            objects: [object; 16],
+            objects: [object; MOST],
             depth: 0,
             place: 0,
             started: false,
@@ -174,8 +172,11 @@ impl Walk {
         requires room { length (objects_of self.old) < 16 }
         requires readable { Readable (description tables.now) }
         requires most { greatest ≡ greatest_in (description tables.now) used.class }
+        requires declared { declared_at (description tables.now) used.line ≡ used.class }
         requires short { (header.after + 8 * header.size ≤ window.end) × (window.end ≤ 2147483647) }
-        ensures { (bits : List Bool) → window.end ≤ length bits → Ok header ≡ header_at bits window (class_at (description tables.now) used.class) (greatest_in (description tables.now) used.class) self.old.place → Answered (description tables.now) bits (beginning (description tables.now) bits (objects_of self.old) used window self.old.place) result self.new }
+        requires placed { (self.old.place ≤ header.place) × (header.place ≤ header.after) }
+        ensures moved { (bits : List Bool) → window.end ≤ length bits → Ok header ≡ header_at bits window (class_at (description tables.now) used.class) (greatest_in (description tables.now) used.class) self.old.place → Begins (description tables.now) bits used window self.old result self.new }
+        ensures kept { Kept self.old.depth self.old self.new }
     {
         let class = object_class(tables, used.class, header.id);
         if class == 0 && greatest == 0 {
@@ -202,7 +203,9 @@ impl Walk {
     fn begin<S: Source>(&mut self, view: &View<S>, tables: &Loaded, used: Using) -> Answer
         requires sound { Sound (description tables.now) self.old }
         requires readable { Readable (description tables.now) }
-        ensures { Answered (description tables.now) (S.bits view.now.source.now) (beginning (description tables.now) (S.bits view.now.source.now) (objects_of self.old) used view.now.window self.old.place) result self.new }
+        requires declared { declared_at (description tables.now) used.line ≡ used.class }
+        ensures moved { Begins (description tables.now) (S.bits view.now.source.now) used view.now.window self.old result self.new }
+        ensures kept { Kept self.old.depth self.old self.new }
     {
         let place = self.place;
         if self.depth >= MOST {
@@ -220,7 +223,7 @@ impl Walk {
         requires begun { self.now.started ≡ true }
         requires none { objects_of self.now ≡ [] }
         requires count { count ≡ length (S.bits source.now) }
-        ensures { (d : Description) → Sound d self.now → Answered d (S.bits source.now) (walk_ahead d (S.bits source.now) self.now) result self.now }
+        ensures { (d : Description) → Sound d self.now → Stepped d (S.bits source.now) self.now (Some result) self.now }
     {
         if at_end(source, count, self.place) {
             return Ok(None);
@@ -232,7 +235,8 @@ impl Walk {
     fn leave(&mut self, i: usize, opened: Opened) -> Answer
         requires innermost { min self.old.depth 16 ≡ suc i }
         requires started { self.old.started ≡ true }
-        ensures { (d : Description) (bits : List Bool) (from : Run (Unit {0})) → Leaving d bits i opened self.old from → Answered d bits from result self.new }
+        ensures moved { (d : Description) (bits : List Bool) (from : List Bool → Run (Unit {0})) → ((B : List Bool) → length bits ≡ length B → Leaving d B i opened self.old (from B)) → Walked d bits self.old.place from (Enclosed (length bits) (objects_of self.old) self.old.place) (Some result) self.new }
+        ensures kept { Kept (i - 1) self.old self.new }
     {
         let value = self.objects[i].inside.name(opened.used.carried);
         let place = place_after(opened, self.place);
@@ -251,7 +255,8 @@ impl Walk {
     pub(crate) fn step<S: Source>(&mut self, source: &S, tables: &Loaded) -> Option<Answer>
         requires sound { Sound (description tables.now) self.old }
         requires readable { Readable (description tables.now) }
-        ensures { Turned (description tables.now) (S.bits source.now) (walk_ahead (description tables.now) (S.bits source.now) self.old) result self.new }
+        ensures moved { Stepped (description tables.now) (S.bits source.now) self.old result self.new }
+        ensures leaves { Leaves self.old result self.new }
     {
         let count = source.length();
         if !self.started {
@@ -305,7 +310,7 @@ impl Walk {
     fn start<S: Source>(&mut self, source: &S, tables: &Loaded, count: u32) -> Answer
         requires readable { Readable (description tables.now) }
         requires whole { count ≡ length (S.bits source.now) }
-        ensures { Answered (description tables.now) (S.bits source.now) (reading (description tables.now) (S.bits source.now)) result self.new }
+        ensures { Walked (description tables.now) (S.bits source.now) 0 (reading (description tables.now)) (Unit {0}) (Some result) self.new }
     {
         self.depth = 0;
         self.place = 0;

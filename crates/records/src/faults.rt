@@ -29,7 +29,8 @@ pub enum Cause {
 }
 
 impl Cause {
-    // The number by which users know the cause.
+    // The number by which users know the cause. Each enum whose cases have numbers has such a method, and no trait gives
+    // it: `as` takes no type parameter, and each contract cites its own numbers.
     pub fn number(self) -> u16
         ensures { result ≡ cause_number self }
     {
@@ -59,7 +60,8 @@ impl Table {
     }
 }
 
-// A broken rule: its cause, and the record that it names, by table and number; 0 of the file names none.
+// A broken rule: its cause, and the record that it names, by table and number; 0 of the file names none. No Option of
+// the two: users know a fault by its three numbers, of which the file's are 0 and 0, and the rules speak of them.
 #[derive(Clone, Copy, PartialEq, Eq, Debug)]
 pub struct Fault {
     pub cause: Cause,

@@ -1,6 +1,6 @@
 // The records of the seven tables, field by field as they stand in the file.
-// A field that names a record holds its number, counted from 1; 0 says none. A kind is the file's number and no enum,
-// since one that there is not is loaded too, and refused by the number of its record.
+// A field that names a record holds its number, counted from 1; 0 says none. A kind is the file's number and no enum, and
+// what is 0 or 1 is a number and no bool, since any other is loaded too, and refused by the number of its record.
 
 // A class of objects: plain, or the base or a member of a family.
 #[derive(Clone, Copy, Default, PartialEq, Eq)]

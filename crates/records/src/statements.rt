@@ -2,10 +2,10 @@ ghost use Rattle.std.specs.Prelude.{◌≡◌, ok_or};
 ghost use Rattle.records.specs.Statements.{statement, read_line, use_line, statement_kind, written};
 
 use crate::records::Line;
-use std::error::Error;
-use std::fmt;
+use thiserror::Error;
 
-// The fields of a read. A node, a name, a count or a bound of 0 says none.
+// The fields of a read. A node, a name, a count or a bound of 0 says none, and `ahead` is a number, as the record holds
+// them: the rules for fields test them here, and a look-up of 0 is defined.
 #[derive(Clone, Copy, PartialEq, Eq)]
 pub struct ReadLine {
     pub signed: bool,
@@ -24,7 +24,7 @@ pub struct ReadLine {
     pub highest: u16,
 }
 
-// The fields of a use of a class. A node, a name or a bound of 0 says none.
+// The fields of a use of a class. A node, a name or a bound of 0 says none, as in a read.
 #[derive(Clone, Copy, PartialEq, Eq)]
 pub struct UseLine {
     pub class: u16,
@@ -56,18 +56,11 @@ pub enum Statement {
 }
 
 // A number that no kind of line has.
-#[derive(Clone, Copy, PartialEq, Eq, Debug)]
+#[derive(Clone, Copy, PartialEq, Eq, Debug, Error)]
+#[error("no kind of line has the number {kind}")]
 pub struct UnknownLine {
     pub kind: u16,
 }
-
-impl fmt::Display for UnknownLine {
-    fn fmt<W: fmt::Write>(&self, f: &mut fmt::Formatter<W>) -> fmt::Result {
-        write!(f, "no kind of line has the number {}", self.kind)
-    }
-}
-
-impl Error for UnknownLine {}
 
 // The line's fields, by the names that they have at its kind.
 impl TryFrom<Line> for Statement {

@@ -130,6 +130,7 @@ lowest_finds width outputs v x l e =
 
 pub record MappedAgain (w : Window) (width : ℕ) (outputs : ℕ → Check ℤ) (p : ℕ) (g : Got) : Type 0 where
   pub place : g.place ≡ p
+  pub long : g.length ≡ width
   pub after : g.after ≡ p + width
   pub within : g.after ≤ w.end
   pub fits : lowest_index width outputs g.value < 2 ^ width
@@ -153,6 +154,7 @@ mapped_again w width outputs p g B e =
         let f = lowest_finds width outputs v x t.1 ou in
         record {
           place = refl;
+          long = refl;
           after = refl;
           within = t.0;
           fits = omega (arith, t.1, f.1);

@@ -20,7 +20,7 @@ Tells d (Some (If node first second)) line = Unit {0}
 Tells d (Some (While node lines rounds)) line = Unit {0}
 Tells d None line = Unit {0}
 
-tells_at : (d : Description) → Straight d → (at : ℕ) (st : Option Statement) → statement (line_at d at) ≡ st → Tells d st at
+pub tells_at : (d : Description) → Straight d → (at : ℕ) (st : Option Statement) → statement (line_at d at) ≡ st → Tells d st at
 tells_at d s at (Some (Read fields)) e = (sym (ap looks_ahead e) ∙ s at, e)
 tells_at d s at (Some (Assign name node)) e = tt
 tells_at d s at (Some (MapRead m name)) e = e

@@ -48,7 +48,8 @@ impl ReadingCause {
     }
 }
 
-// What a step fails with: the cause, and the node that fails where it lies in an operator, else 0.
+// What a step fails with: the cause, and the node that fails where it lies in an operator, else 0. No Option: the node
+// is one of the four numbers by which users know a fault, where 0 names none.
 #[derive(Clone, Copy, PartialEq, Eq, Debug)]
 pub struct Failure {
     pub cause: ReadingCause,

@@ -2,8 +2,7 @@ ghost use Rattle.std.specs.Prelude.{◌≡◌};
 ghost use Rattle.std.specs.Option.{ok_or};
 ghost use Rattle.rules.specs.Numbers.{kind_number, kind_with};
 
-use std::error::Error;
-use std::fmt;
+use thiserror::Error;
 
 // The kinds of item.
 #[derive(Clone, Copy, PartialEq, Eq, Debug)]
@@ -26,18 +25,11 @@ impl Kind {
 }
 
 // A number that no kind of item has.
-#[derive(Clone, Copy, PartialEq, Eq, Debug)]
+#[derive(Clone, Copy, PartialEq, Eq, Debug, Error)]
+#[error("no kind of item has the number {number}")]
 pub struct UnknownKind {
     pub number: u16,
 }
-
-impl fmt::Display for UnknownKind {
-    fn fmt<W: fmt::Write>(&self, f: &mut fmt::Formatter<W>) -> fmt::Result {
-        write!(f, "no kind of item has the number {}", self.number)
-    }
-}
-
-impl Error for UnknownKind {}
 
 // The kind with a number.
 impl TryFrom<u16> for Kind {

@@ -1,6 +1,7 @@
 // What the steps of a reading answer.
 
-// What bits may be taken from: the innermost open expandable object, else the source.
+// What bits may be taken from: the innermost open expandable object, else the source. No enum of the two: either has an
+// end, by which every step goes, and `object` only tells the cause where the bits are too few.
 #[derive(Clone, Copy)]
 pub struct Window {
     // the place where it ends

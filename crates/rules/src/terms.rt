@@ -3,9 +3,9 @@ ghost use Rattle.std.specs.Option.{ok_or};
 ghost use Rattle.rules.specs.Numbers.{operator_number, operator_with};
 ghost use Rattle.rules.specs.Terms.{term};
 
+use crate::lookups::of_halves;
 use records::records::Node;
-use std::error::Error;
-use std::fmt;
+use thiserror::Error;
 
 // The operators on two values, with the number of each in a node.
 #[derive(Clone, Copy, PartialEq, Eq, Debug)]
@@ -39,18 +39,11 @@ impl Operator {
 }
 
 // A number that no operator has.
-#[derive(Clone, Copy, PartialEq, Eq, Debug)]
+#[derive(Clone, Copy, PartialEq, Eq, Debug, Error)]
+#[error("no operator has the number {number}")]
 pub struct UnknownOperator {
     pub number: u16,
 }
-
-impl fmt::Display for UnknownOperator {
-    fn fmt<W: fmt::Write>(&self, f: &mut fmt::Formatter<W>) -> fmt::Result {
-        write!(f, "no operator has the number {}", self.number)
-    }
-}
-
-impl Error for UnknownOperator {}
 
 // The operator with a number.
 impl TryFrom<u16> for Operator {
@@ -112,7 +105,7 @@ impl TryFrom<Node> for Term {
     fn try_from(node: Node) -> Result<Term, UnknownOperator> {
         match node.op {
             1 => Ok(Term::Constant {
-                value: u32::from(node.a) * 65536 + u32::from(node.b),
+                value: of_halves(node.a, node.b),
             }),
             2 => Ok(Term::Named { name: node.a }),
             3 => Ok(Term::OwnSize),

@@ -3,7 +3,8 @@ ghost use Rattle.std.specs.Prelude.{◌≡◌, ℕ, ◌+◌, ◌*◌, ◌<◌, �
 use std::fmt;
 use std::ops::Add;
 
-// How many answers were compared, and how many of them differed.
+// How many answers were compared, and how many of them differed. The program `cases` has a tally of its own, which
+// counts case by case and says it in other words.
 #[derive(Clone, Copy)]
 pub struct Tally {
     pub compared: u32,

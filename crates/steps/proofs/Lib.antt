@@ -4,3 +4,4 @@ pub mod Naturals
 pub mod Bounds
 pub mod Read
 pub mod MapRead
+pub mod Multiples

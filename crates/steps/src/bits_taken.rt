@@ -20,7 +20,8 @@ fn ends(window: Window) -> Failure
 }
 
 // The first multiple at or after a place; every place is one of 0.
-fn next_multiple(of: u16, p: u32) -> u32
+#[tactic(auto, using(crate::proofs::Multiples::first_multiple, crate::proofs::Multiples::near))]
+pub fn next_multiple(of: u16, p: u32) -> u32
     requires { p ≤ 2147483647 }
     ensures value { result ≡ next_multiple of p }
     ensures bound { p ≤ result }
@@ -28,8 +29,7 @@ fn next_multiple(of: u16, p: u32) -> u32
     if of == 0 {
         return p;
     }
-    let of = of as u32;
-    (p + (of - 1)) / of * of
+    p.next_multiple_of(u32::from(of))
 }
 
 impl<S: Source> View<'_, S> {

@@ -2,6 +2,7 @@ ghost use Rattle.std.specs.Prelude.{◌≡◌, ◌+◌, ◌^◌, ◌<◌, ◌≤
 ghost use Rattle.rules.specs.Steps.{element, bounded, signed};
 ghost use Rattle.values.specs.Scopes.{value_in};
 ghost use Rattle.table.specs.Tests.{Answers};
+ghost use Rattle.steps.specs.Took.{Took};
 
 use crate::numbers::{natural, signed};
 use crate::view::View;
@@ -42,7 +43,7 @@ fn read_value(is_signed: bool, length: u32, raw: u64) -> i64
 fn place_after(ahead: u16, place: u32, length: u32) -> u32
     requires { place + length ≤ 4294967295 }
     ensures value { result ≡ (if nat_eq ahead 0 then place + length else place) }
-    ensures bound { result ≤ place + length }
+    ensures bound { (place ≤ result) × (result ≤ place + length) }
 {
     if ahead == 0 { place + length } else { place }
 }
@@ -52,7 +53,7 @@ impl<S: Source> View<'_, S> {
     pub fn element(&self, scope: &Scope, line: ReadLine, p: u32) -> Result<Got, Failure>
         requires place { p ≤ 2147483647 }
         ensures value { result ≡ element (S.bits self.now.source.now) self.now.window line (value_in scope.now line.width) (value_in scope.now line.lowest) (value_in scope.now line.highest) p }
-        ensures bound { IfOk result (λ g. g.after ≤ self.now.window.end) }
+        ensures bound { IfOk result (λ g. Took p self.now.window.end g.place g.length g.after) }
     {
         let place = self.aligned(line.alignment, p)?;
         let length = natural(32, scope.value(line.width)?)?;

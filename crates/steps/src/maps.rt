@@ -2,6 +2,7 @@ ghost use Rattle.std.specs.Prelude.{◌≡◌, ◌+◌, ◌<◌, ◌≤◌, IfOk
 ghost use Rattle.table.specs.Description.{Description};
 ghost use Rattle.rules.specs.Lookups.{find_row};
 ghost use Rattle.rules.specs.Steps.{mapped};
+ghost use Rattle.steps.specs.Took.{Took};
 
 use crate::view::View;
 use bits::source::Source;
@@ -29,7 +30,7 @@ impl<S: Source> View<'_, S> {
     pub fn map_read(&self, rows: &[Row], map: Map, p: u32) -> Result<Got, Failure>
         requires width { map.width ≤ 32 }
         ensures value { (d : Description) → d.rows ≡ rows.now → result ≡ mapped (S.bits self.now.source.now) self.now.window map.width (find_row d map.first map.number) p }
-        ensures bound { IfOk result (λ g. (p ≤ g.after) × (g.after ≤ self.now.window.end)) }
+        ensures bound { IfOk result (λ g. Took p self.now.window.end g.place g.length g.after) }
     {
         let length = u32::from(map.width);
         let index = self.taken(length, p)?;

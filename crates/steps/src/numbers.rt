@@ -8,10 +8,10 @@ pub fn natural(most: u32, value: i64) -> Result<u32, Failure>
     ensures value { result ≡ natural most (Ok value) }
     ensures bound { IfOk result (λ n. n ≤ most) }
 {
-    if value < 0 || value > i64::from(most) {
-        return Err(ReadingCause::WidthOrCount.into());
-    }
-    Ok(value as u32)
+    u32::try_from(value)
+        .ok()
+        .filter(|n| *n <= most)
+        .ok_or(ReadingCause::WidthOrCount.into())
 }
 
 // A number of n bits as a signed one, in two's complement.

@@ -1,4 +1,5 @@
-// The seven kinds of record.
+// The seven kinds of record, with an impl each: the fields, their places in the file and their rule are its own, and
+// there is no more in it. Ghost members that are alike are written out too: a macro takes no ghost item.
 ghost use Rattle.std.proofs.Common.{rules};
 ghost use Rattle.table.specs.Kinds.{class_of, name_of, extension_of, line_of, node_of, map_of, row_of};
 ghost use Rattle.table.specs.Description.{no_class, no_name, no_extension, no_line, no_node, no_map, no_row};

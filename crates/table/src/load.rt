@@ -43,8 +43,7 @@ fn counts_at(bytes: &[u8]) -> Counts
 fn counts_fit(counts: Counts) -> bool
     ensures { result ≡ counts_fit counts }
 {
-    counts.classes >= 1
-        && counts.classes <= 32
+    (1..=32).contains(&counts.classes)
         && counts.names <= 128
         && counts.extensions <= 32
         && counts.lines <= 512

@@ -4,7 +4,8 @@ ghost use Rattle.table.specs.Limits.{within_limits};
 use records::records::{Class, Extension, Line, Map, Name, Node, Row};
 
 // A description as loaded, with nothing checked but how many records its tables have: the top class and the seven
-// tables.
+// tables. What names a record holds its number, also where nodes name nodes: a node may have many users, and lines,
+// faults and the file name nodes by number too, so boxed trees would still need the table.
 #[derive(Drop)]
 pub struct Loaded {
     pub top: u16,

@@ -7,6 +7,8 @@ use records::counts::Counts;
 use records::records::{Class, Extension, Line, Map, Name, Node, Row};
 use records::statements::Statement;
 
+// One look-up for each table: what a caller names is the table, and what it learns is the definition for that table. As
+// `record_at(&loaded.classes, n)` a look-up says its table and its kind, but not the description that the rules speak of.
 impl Loaded {
     // How many records each table has.
     pub fn counts(&self) -> Counts

@@ -49,7 +49,8 @@ pub fn word(bytes: &[u8], at: usize) -> u16
     u16::from_be_bytes([bytes[at], bytes[at + 1]])
 }
 
-// The table of `count` records at `at`, whatever their kind.
+// The table of `count` records at `at`, whatever their kind. By their places, as the definition goes: `chunks_exact`
+// would ask of every kind that it has a number at all, and give each record anew a place in its own bytes.
 pub(crate) fn read_table<R: Record>(
     heap: Global,
     bytes: &[u8],

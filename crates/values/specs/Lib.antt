@@ -1,2 +1,3 @@
 pub mod Names
+pub mod Operations
 pub mod Scopes

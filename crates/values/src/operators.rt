@@ -1,7 +1,8 @@
 // The operators on values. A value lies from -2,147,483,648 to 4,294,967,295.
-ghost use Rattle.std.specs.Prelude.{◌≡◌, ℕ, not, ◌&&◌, ◌||◌, pos, ◌+ℤ◌, ◌-ℤ◌, ◌*ℤ◌, bit_and, bit_or, int_div, int_rem};
-ghost use Rattle.std.specs.Int.Signed.{shr_z, lt_z, le_z};
-ghost use Rattle.rules.specs.Values.{ranged, divided, shifted, bitwise, flag, is_zero, same, applied};
+ghost use Rattle.std.specs.Prelude.{◌≡◌, ℤ, pos, ◌≤◌, ◌||◌, cond, int_lt, unsigned_abs, Ok, Err, IfOk};
+ghost use Rattle.rules.specs.declared.faults.ReadingCause.TheVariants.{ZeroDivisor, BadOperand};
+ghost use Rattle.rules.specs.Values.{ranged, flag, is_zero, applied};
+ghost use Rattle.values.specs.Operations.{Checked};
 
 use rules::faults::ReadingCause;
 use rules::terms::Operator;
@@ -10,89 +11,53 @@ const LOWEST: i64 = -2147483648;
 
 const HIGHEST: i64 = 4294967295;
 
+// A value in the range.
 fn ranged(v: i64) -> Result<i64, ReadingCause>
     ensures { result ≡ ranged v }
 {
-    if v >= LOWEST && v <= HIGHEST {
+    if (LOWEST..=HIGHEST).contains(&v) {
         Ok(v)
     } else {
         Err(ReadingCause::OutOfRange)
     }
 }
 
-fn multiply(x: i64, y: i64) -> Result<i64, ReadingCause>
-    ensures { result ≡ ranged (x *ℤ y) }
+// The value z of a checked operation, which gives none only where z is far out of range.
+fn checked(v: Option<i64>) -> Result<i64, ReadingCause>
+    ensures { (z : ℤ) → Checked v z → result ≡ ranged z }
 {
-    ranged(x.checked_mul(y).ok_or(ReadingCause::OutOfRange)?)
+    ranged(v.ok_or(ReadingCause::OutOfRange)?)
 }
 
-fn add(x: i64, y: i64) -> Result<i64, ReadingCause>
-    ensures { result ≡ ranged (x +ℤ y) }
+// A divisor, which may not be 0.
+fn divisor(y: i64) -> Result<i64, ReadingCause>
+    ensures { result ≡ cond (is_zero y) (Err ZeroDivisor) (Ok y) }
 {
-    ranged(x.checked_add(y).ok_or(ReadingCause::OutOfRange)?)
-}
-
-fn subtract(x: i64, y: i64) -> Result<i64, ReadingCause>
-    ensures { result ≡ ranged (x -ℤ y) }
-{
-    ranged(x.checked_sub(y).ok_or(ReadingCause::OutOfRange)?)
-}
-
-// Drops the fraction.
-fn divide(x: i64, y: i64) -> Result<i64, ReadingCause>
-    ensures { result ≡ divided int_div x y }
-{
-    if y == 0 {
+    if is_zero(y) {
         return Err(ReadingCause::ZeroDivisor);
     }
-    ranged(x.checked_div(y).ok_or(ReadingCause::OutOfRange)?)
+    Ok(y)
 }
 
-// Has the sign of x.
-fn remainder(x: i64, y: i64) -> Result<i64, ReadingCause>
-    ensures { result ≡ divided int_rem x y }
+// How far to shift: from 0 to 31.
+fn shift(y: i64) -> Result<u32, ReadingCause>
+    ensures value { result ≡ cond (int_lt y (pos 0) || int_lt (pos 31) y) (Err BadOperand) (Ok (unsigned_abs y)) }
+    ensures bound { IfOk result (λ n. n ≤ 31) }
 {
-    if y == 0 {
-        return Err(ReadingCause::ZeroDivisor);
-    }
-    ranged(x.checked_rem(y).unwrap_or(0))
-}
-
-fn shift_left(x: i64, y: i64) -> Result<i64, ReadingCause>
-    ensures { result ≡ shifted (λ a m. a *ℤ pos m) x y }
-{
-    if y < 0 || y > 31 {
+    if !(0..=31).contains(&y) {
         return Err(ReadingCause::BadOperand);
     }
-    multiply(x, 1i64 << (y as u32))
+    Ok(y as u32)
 }
 
-// Rounds down.
-fn shift_right(x: i64, y: i64) -> Result<i64, ReadingCause>
-    ensures { result ≡ shifted shr_z x y }
+// An operand as bits: it may not be negative.
+fn bits(x: i64) -> Result<i64, ReadingCause>
+    ensures { result ≡ cond (int_lt x (pos 0)) (Err BadOperand) (Ok x) }
 {
-    if y < 0 || y > 31 {
+    if x < 0 {
         return Err(ReadingCause::BadOperand);
     }
-    ranged(x >> (y as u32))
-}
-
-fn bit_and(x: i64, y: i64) -> Result<i64, ReadingCause>
-    ensures { result ≡ bitwise bit_and x y }
-{
-    if x < 0 || y < 0 {
-        return Err(ReadingCause::BadOperand);
-    }
-    ranged(x & y)
-}
-
-fn bit_or(x: i64, y: i64) -> Result<i64, ReadingCause>
-    ensures { result ≡ bitwise bit_or x y }
-{
-    if x < 0 || y < 0 {
-        return Err(ReadingCause::BadOperand);
-    }
-    ranged(x | y)
+    Ok(x)
 }
 
 // A test gives 1 or 0.
@@ -115,21 +80,21 @@ pub fn apply(operator: Operator, x: i64, y: i64) -> Result<i64, ReadingCause>
     ensures { result ≡ applied operator x y }
 {
     match operator {
-        Operator::Multiply => multiply(x, y),
-        Operator::Divide => divide(x, y),
-        Operator::Remainder => remainder(x, y),
-        Operator::Add => add(x, y),
-        Operator::Subtract => subtract(x, y),
-        Operator::ShiftLeft => shift_left(x, y),
-        Operator::ShiftRight => shift_right(x, y),
+        Operator::Multiply => checked(x.checked_mul(y)),
+        Operator::Divide => checked(x.checked_div(divisor(y)?)),
+        Operator::Remainder => ranged(x.checked_rem(divisor(y)?).unwrap_or(0)),
+        Operator::Add => checked(x.checked_add(y)),
+        Operator::Subtract => checked(x.checked_sub(y)),
+        Operator::ShiftLeft => checked(x.checked_mul(1 << shift(y)?)),
+        Operator::ShiftRight => ranged(x >> shift(y)?),
         Operator::Less => flag(x < y),
         Operator::AtMost => flag(x <= y),
         Operator::Greater => flag(y < x),
         Operator::AtLeast => flag(y <= x),
         Operator::Equal => flag(x == y),
         Operator::Unequal => flag(x != y),
-        Operator::BitAnd => bit_and(x, y),
-        Operator::BitOr => bit_or(x, y),
+        Operator::BitAnd => ranged(bits(x)? & bits(y)?),
+        Operator::BitOr => ranged(bits(x)? | bits(y)?),
         Operator::And => flag(!is_zero(x) && !is_zero(y)),
         Operator::Or => flag(!is_zero(x) || !is_zero(y)),
     }

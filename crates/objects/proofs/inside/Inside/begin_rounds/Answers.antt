@@ -21,13 +21,16 @@ round-requires g c =
 pub returns : goal.returns
 unfolding coded
 returns g c =
-    let bits = g.S.Source.bits c.args.scene.now.source.now in
     let d = description c.args.scene.now.tables.now in
     let o = object_of c.args.scene.now.about in
     let m = c.min-m.ensures in
     let fs = frames c.args.self.now.frames in
     let e = c.push.ensures ∙ (λ i. Lines (c.args.at.line + 1 + m i) (c.args.at.after - m i) ∷ fs) in
-    moved_from d bits o c.args.scene.now.place c.round.result (inner_of c.round.new.self)
-    (λ obj. while_run (description c.args.scene.now.tables.now) bits (object_of c.args.scene.now.about) (inner_of c.args.self.now) c.args.scene.now.place c.args.at.line c.args.at.after c.args.node c.args.lines c.args.rounds obj
-    ∙ ap (λ (x : Inner). inner_run d bits o x c.args.scene.now.place obj) (sym (same-inner (λ i. Rounds c.args.at.line c.args.node (m i) c.args.rounds ∷ e i) refl)))
-    c.round.ensures
+    record {
+      moved = λ B l.
+          moved_from d B o c.args.scene.now.place c.round.result (inner_of c.round.new.self)
+          (λ obj. while_run (description c.args.scene.now.tables.now) B (object_of c.args.scene.now.about) (inner_of c.args.self.now) c.args.scene.now.place c.args.at.line c.args.at.after c.args.node c.args.lines c.args.rounds obj
+          ∙ ap (λ (x : Inner). inner_run d B o x c.args.scene.now.place obj) (sym (same-inner (λ i. Rounds c.args.at.line c.args.node (m i) c.args.rounds ∷ e i) refl)))
+          (c.round.ensures.moved B l);
+      bound = λ h. c.round.ensures.bound h;
+    }

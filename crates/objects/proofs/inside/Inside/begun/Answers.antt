@@ -1,5 +1,6 @@
-use Rattle.std.proofs.Common.{◌≡◌, ◌≤◌, List, [], ◌∷◌, length, sym, ◌∙◌, subst, arith}
+use Rattle.std.proofs.Common.{◌≡◌, ◌≤◌, List, [], ◌∷◌, length, sym, ap, ◌∙◌, subst, arith}
 use Rattle.records.specs.declared.records.Extension.{Extension}
+use Rattle.records.specs.declared.stretches.Stretch.{Stretch}
 use Rattle.table.specs.Description.{description}
 use Rattle.objects.specs.declared.frame.Frame.TheVariants.{Lines}
 use Rattle.objects.specs.Frames.{frames}
@@ -18,9 +19,11 @@ returns-then-class-eq0 c =
 pub returns : goal.returns
 returns c =
     let d = description c.args.tables.now in
+    let own = c.from-2.ensures ∙ ap (λ (s : Stretch). Lines s.first s.number) c.from.ensures in
+    let base = c.from-4.ensures ∙ ap (λ (s : Stretch). Lines s.first s.number) c.from-3.ensures in
     let fs : frames c.push_both.new.self
     ≡ Lines c.class-base.result.first c.class-base.result.number ∷ Lines c.class-own.result.first c.class-own.result.number ∷ [] =
-    c.push_both.ensures ∙ (λ i. c.lines_of-2.ensures i ∷ c.lines_of.ensures i ∷ (c.idle-inside.ensures i).frames) in
+    c.push_both.ensures ∙ (λ i. base i ∷ own i ∷ (c.idle-inside.ensures i).frames) in
     let same : ◌≡◌ {A = Inner} (record { frames = frames c.push_both.new.self; extension = (inner_of c.idle-inside.result).extension; names = (inner_of c.idle-inside.result).names }) _ =
     λ i. record { frames = fs i; extension = (c.idle-inside.ensures i).extension; names = (c.idle-inside.ensures i).names } in
     subst (λ (x : Inner). Begun d c.args.class x) (sym same)

@@ -1,4 +1,4 @@
-use Rattle.std.proofs.Common.{◌+◌, ◌-◌, min, [], ◌∷◌, sym, refl, ap, ◌∙◌, to_z-of_z, w64, SFits, rules}
+use Rattle.std.proofs.Common.{◌+◌, ◌-◌, min, [], ◌∷◌, sym, refl, ap, ◌∙◌, arith, to_z-of_z, w64, SFits, rules}
 use Rattle.std.proofs.lemmas.Result.{err_from_is_err_and}
 use Rattle.table.specs.Description.{description}
 use Rattle.rules.specs.Code.{coded}
@@ -21,37 +21,43 @@ push_both-requires g c =
 pub returns : goal.returns
 unfolding coded
 returns g c =
-    let bits = g.S.Source.bits c.args.scene.now.source.now in
     let fv : SFits w64 c.in_ok-value.value = search rules in
     let m = c.min-m.ensures in
     let n = c.min-n.ensures ∙ ap (λ x. min c.args.second (c.args.at.after - x)) m in
     let at = c.args.at.line + 1 in
     let fs = frames c.args.self.now.frames in
     let worked = tried_ok c.args.at.line c.args.scene.now.place c.value.result _ c.in_ok-value.ensures ∙ c.value.ensures in
-    elim c.if-is_zero.branch [
-      | then-is_zero w ↦
-          quietly_at (same-inner (c.push_both.ensures ∙ ap (λ (f : Frame). f ∷ Lines (at + c.min-m.result + c.min-n.result) (c.args.at.after - c.min-m.result - c.min-n.result) ∷ fs) w.block-is ∙ (λ i. Lines (at + m i) (n i) ∷ Lines (at + m i + n i) (c.args.at.after - m i - n i) ∷ fs)) refl)
-          (record {
-            same = branch_second (description c.args.scene.now.tables.now) bits (object_of c.args.scene.now.about) (inner_of c.args.self.now) c.args.scene.now.place c.args.at.line c.args.at.after c.args.node c.args.first c.args.second c.in_ok-value.value worked (sym (simp to_z-of_z at c.is_zero.ensures) ∙ w.if-is_zero.true);
-            fit = second_room (description c.args.scene.now.tables.now) bits (object_of c.args.scene.now.about) (inner_of c.args.self.now) c.args.scene.now.place c.args.at.line c.args.at.after c.args.node c.args.first c.args.second c.requires.room;
-            near = c.args.scene.now.near;
-          })
-      | else-is_zero w ↦
-          quietly_at (same-inner (c.push_both.ensures ∙ ap (λ (f : Frame). f ∷ Lines (at + c.min-m.result + c.min-n.result) (c.args.at.after - c.min-m.result - c.min-n.result) ∷ fs) w.block-is ∙ (λ i. Lines at (m i) ∷ Lines (at + m i + n i) (c.args.at.after - m i - n i) ∷ fs)) refl)
-          (record {
-            same = branch_first (description c.args.scene.now.tables.now) bits (object_of c.args.scene.now.about) (inner_of c.args.self.now) c.args.scene.now.place c.args.at.line c.args.at.after c.args.node c.args.first c.args.second c.in_ok-value.value worked (sym (simp to_z-of_z at c.is_zero.ensures) ∙ w.if-is_zero.false);
-            fit = first_room (description c.args.scene.now.tables.now) bits (object_of c.args.scene.now.about) (inner_of c.args.self.now) c.args.scene.now.place c.args.at.line c.args.at.after c.args.node c.args.first c.args.second c.requires.room;
-            near = c.args.scene.now.near;
-          })
-    ]
+    record {
+      moved = λ B l.
+          elim c.if-is_zero.branch [
+            | then-is_zero w ↦
+                quietly_at (same-inner (c.push_both.ensures ∙ ap (λ (f : Frame). f ∷ Lines (at + c.min-m.result + c.min-n.result) (c.args.at.after - c.min-m.result - c.min-n.result) ∷ fs) w.block-is ∙ (λ i. Lines (at + m i) (n i) ∷ Lines (at + m i + n i) (c.args.at.after - m i - n i) ∷ fs)) refl)
+                (record {
+                  same = branch_second (description c.args.scene.now.tables.now) B (object_of c.args.scene.now.about) (inner_of c.args.self.now) c.args.scene.now.place c.args.at.line c.args.at.after c.args.node c.args.first c.args.second c.in_ok-value.value worked (sym (simp to_z-of_z at c.is_zero.ensures) ∙ w.if-is_zero.true);
+                  fit = second_room (description c.args.scene.now.tables.now) B (object_of c.args.scene.now.about) (inner_of c.args.self.now) c.args.scene.now.place c.args.at.line c.args.at.after c.args.node c.args.first c.args.second c.requires.room;
+                  near = c.args.scene.now.near;
+                })
+            | else-is_zero w ↦
+                quietly_at (same-inner (c.push_both.ensures ∙ ap (λ (f : Frame). f ∷ Lines (at + c.min-m.result + c.min-n.result) (c.args.at.after - c.min-m.result - c.min-n.result) ∷ fs) w.block-is ∙ (λ i. Lines at (m i) ∷ Lines (at + m i + n i) (c.args.at.after - m i - n i) ∷ fs)) refl)
+                (record {
+                  same = branch_first (description c.args.scene.now.tables.now) B (object_of c.args.scene.now.about) (inner_of c.args.self.now) c.args.scene.now.place c.args.at.line c.args.at.after c.args.node c.args.first c.args.second c.in_ok-value.value worked (sym (simp to_z-of_z at c.is_zero.ensures) ∙ w.if-is_zero.false);
+                  fit = first_room (description c.args.scene.now.tables.now) B (object_of c.args.scene.now.about) (inner_of c.args.self.now) c.args.scene.now.place c.args.at.line c.args.at.after c.args.node c.args.first c.args.second c.requires.room;
+                  near = c.args.scene.now.near;
+                })
+          ];
+      bound = λ h. (omega arith, h);
+    }
 
 pub returns-in_err-value : goal.returns-in_err-value
 unfolding coded
 returns-in_err-value g c =
-    let bits = g.S.Source.bits c.args.scene.now.source.now in
     let p = err_from_is_err_and c.from_residual.result c.from_residual.ensures.1 in
     let t = tried_err c.args.at.line c.args.scene.now.place c.value.result _ c.in_err-value.ensures in
     rw (p.1, p.2) (record {
-      same = λ obj. branch_fails (description c.args.scene.now.tables.now) bits (object_of c.args.scene.now.about) (inner_of c.args.self.now) c.args.scene.now.place c.args.at.line c.args.at.after c.args.node c.args.first c.args.second t.0 (t.1 ∙ c.value.ensures) obj ∙ ap stop t.2;
-      fit = c.requires.room.fit;
+      moved = λ B l.
+          record {
+            same = λ obj. branch_fails (description c.args.scene.now.tables.now) B (object_of c.args.scene.now.about) (inner_of c.args.self.now) c.args.scene.now.place c.args.at.line c.args.at.after c.args.node c.args.first c.args.second t.0 (t.1 ∙ c.value.ensures) obj ∙ ap stop t.2;
+            fit = c.requires.room.fit;
+          };
+      bound = λ h. tt;
     })

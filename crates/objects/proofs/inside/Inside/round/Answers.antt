@@ -15,21 +15,27 @@ use Rattle.objects.proofs.inside.Inside.round.Goals as goal
 
 pub returns-then-is_zero : goal.returns-then-is_zero
 returns-then-is_zero g c =
-    let bits = g.S.Source.bits c.args.scene.now.source.now in
     let fv : SFits w64 c.in_ok-value.value = search rules in
     record {
-      same = round_ends (description c.args.scene.now.tables.now) bits (object_of c.args.scene.now.about) (inner_of c.args.self.now) c.args.scene.now.place c.args.line c.args.node c.args.count c.args.left c.in_ok-value.value (tried_ok c.args.line c.args.scene.now.place c.value.result _ c.in_ok-value.ensures ∙ c.value.ensures) (sym (simp to_z-of_z at c.is_zero.ensures) ∙ c.if-is_zero.true);
-      fit = fit_under (description c.args.scene.now.tables.now) _ _ c.requires;
-      near = c.args.scene.now.near;
+      moved = λ B l.
+          record {
+            same = round_ends (description c.args.scene.now.tables.now) B (object_of c.args.scene.now.about) (inner_of c.args.self.now) c.args.scene.now.place c.args.line c.args.node c.args.count c.args.left c.in_ok-value.value (tried_ok c.args.line c.args.scene.now.place c.value.result _ c.in_ok-value.ensures ∙ c.value.ensures) (sym (simp to_z-of_z at c.is_zero.ensures) ∙ c.if-is_zero.true);
+            fit = fit_under (description c.args.scene.now.tables.now) _ _ c.requires;
+            near = c.args.scene.now.near;
+          };
+      bound = λ h. (omega arith, h);
     }
 
 pub returns-then-left-eq0 : goal.returns-then-left-eq0
 returns-then-left-eq0 g c =
-    let bits = g.S.Source.bits c.args.scene.now.source.now in
     let fv : SFits w64 c.in_ok-value.value = search rules in
     record {
-      same = λ obj. round_stops (description c.args.scene.now.tables.now) bits (object_of c.args.scene.now.about) (inner_of c.args.self.now) c.args.scene.now.place c.args.line c.args.node c.args.count c.args.left (omega arith) c.in_ok-value.value (tried_ok c.args.line c.args.scene.now.place c.value.result _ c.in_ok-value.ensures ∙ c.value.ensures) (sym (simp to_z-of_z at c.is_zero.ensures) ∙ c.if-is_zero.false) obj ∙ ap stop (sym (c.at.ensures ∙ ap (λ (f : Failure). fault f.cause c.args.line f.node c.args.scene.now.place) c.from.ensures));
-      fit = fit_under (description c.args.scene.now.tables.now) _ _ c.requires;
+      moved = λ B l.
+          record {
+            same = λ obj. round_stops (description c.args.scene.now.tables.now) B (object_of c.args.scene.now.about) (inner_of c.args.self.now) c.args.scene.now.place c.args.line c.args.node c.args.count c.args.left (omega arith) c.in_ok-value.value (tried_ok c.args.line c.args.scene.now.place c.value.result _ c.in_ok-value.ensures ∙ c.value.ensures) (sym (simp to_z-of_z at c.is_zero.ensures) ∙ c.if-is_zero.false) obj ∙ ap stop (sym (c.at.ensures ∙ ap (λ (f : Failure). fault f.cause c.args.line f.node c.args.scene.now.place) c.from.ensures));
+            fit = fit_under (description c.args.scene.now.tables.now) _ _ c.requires;
+          };
+      bound = λ h. tt;
     }
 
 pub push_both-requires : goal.push_both-requires
@@ -38,21 +44,27 @@ push_both-requires g c =
 
 pub returns : goal.returns
 returns g c =
-    let bits = g.S.Source.bits c.args.scene.now.source.now in
     let fv : SFits w64 c.in_ok-value.value = search rules in
-    quietly_at (same-inner (c.push_both.ensures ∙ ap (λ (f : Frame). f ∷ Rounds c.args.line c.args.node c.args.count (c.args.left - 1) ∷ frames c.args.self.now.frames) c.lines_after.ensures) refl)
-    (record {
-      same = round_goes (description c.args.scene.now.tables.now) bits (object_of c.args.scene.now.about) (inner_of c.args.self.now) c.args.scene.now.place c.args.line c.args.node c.args.count c.args.left (omega arith) c.in_ok-value.value (tried_ok c.args.line c.args.scene.now.place c.value.result _ c.in_ok-value.ensures ∙ c.value.ensures) (sym (simp to_z-of_z at c.is_zero.ensures) ∙ c.if-is_zero.false);
-      fit = round_room (description c.args.scene.now.tables.now) bits (object_of c.args.scene.now.about) (inner_of c.args.self.now) c.args.scene.now.place c.args.line c.args.node c.args.count c.args.left c.requires;
-      near = c.args.scene.now.near;
-    })
+    record {
+      moved = λ B l.
+          quietly_at (same-inner (c.push_both.ensures ∙ ap (λ (f : Frame). f ∷ Rounds c.args.line c.args.node c.args.count (c.args.left - 1) ∷ frames c.args.self.now.frames) c.lines_after.ensures) refl)
+          (record {
+            same = round_goes (description c.args.scene.now.tables.now) B (object_of c.args.scene.now.about) (inner_of c.args.self.now) c.args.scene.now.place c.args.line c.args.node c.args.count c.args.left (omega arith) c.in_ok-value.value (tried_ok c.args.line c.args.scene.now.place c.value.result _ c.in_ok-value.ensures ∙ c.value.ensures) (sym (simp to_z-of_z at c.is_zero.ensures) ∙ c.if-is_zero.false);
+            fit = round_room (description c.args.scene.now.tables.now) B (object_of c.args.scene.now.about) (inner_of c.args.self.now) c.args.scene.now.place c.args.line c.args.node c.args.count c.args.left c.requires;
+            near = c.args.scene.now.near;
+          });
+      bound = λ h. (omega arith, h);
+    }
 
 pub returns-in_err-value : goal.returns-in_err-value
 returns-in_err-value g c =
-    let bits = g.S.Source.bits c.args.scene.now.source.now in
     let p = err_from_is_err_and c.from_residual.result c.from_residual.ensures.1 in
     let t = tried_err c.args.line c.args.scene.now.place c.value.result _ c.in_err-value.ensures in
     rw (p.1, p.2) (record {
-      same = λ obj. round_fails (description c.args.scene.now.tables.now) bits (object_of c.args.scene.now.about) (inner_of c.args.self.now) c.args.scene.now.place c.args.line c.args.node c.args.count c.args.left t.0 (t.1 ∙ c.value.ensures) obj ∙ ap stop t.2;
-      fit = fit_under (description c.args.scene.now.tables.now) _ _ c.requires;
+      moved = λ B l.
+          record {
+            same = λ obj. round_fails (description c.args.scene.now.tables.now) B (object_of c.args.scene.now.about) (inner_of c.args.self.now) c.args.scene.now.place c.args.line c.args.node c.args.count c.args.left t.0 (t.1 ∙ c.value.ensures) obj ∙ ap stop t.2;
+            fit = fit_under (description c.args.scene.now.tables.now) _ _ c.requires;
+          };
+      bound = λ h. tt;
     })

@@ -21,32 +21,38 @@ push_both-requires g c =
 pub returns : goal.returns
 unfolding coded
 returns g c =
-    let bits = g.S.Source.bits c.args.scene.now.source.now in
     let fs = frames c.args.self.now.frames in
-    elim c.if-fields-gt0.branch [
-      | then-fields-gt0+in_ok-tried w ↦
-          quietly_at (same-inner (c.push_both.ensures ∙ (λ i. w.objects-is i ∷ c.lines_after.ensures i ∷ fs)) refl)
-          (record {
-            same = use_run (description c.args.scene.now.tables.now) bits (object_of c.args.scene.now.about) (inner_of c.args.self.now) c.args.scene.now.place c.args.at.line c.args.at.after c.args.fields w.if-fields-gt0.true w.in_ok-tried.field-0 (tried_ok c.args.at.line c.args.scene.now.place w.count.result _ w.in_ok-tried.ensures ∙ w.count.ensures);
-            fit = counted_room (description c.args.scene.now.tables.now) bits (object_of c.args.scene.now.about) (inner_of c.args.self.now) c.args.scene.now.place c.args.at.line c.args.at.after c.args.fields w.in_ok-tried.field-0 c.requires.named c.requires.room;
-            near = c.args.scene.now.near;
-          })
-      | else-fields-gt0 w ↦
-          quietly_at (same-inner (c.push_both.ensures ∙ (λ i. w.objects-is i ∷ c.lines_after.ensures i ∷ fs)) refl)
-          (record {
-            same = use_to_end (description c.args.scene.now.tables.now) bits (object_of c.args.scene.now.about) (inner_of c.args.self.now) c.args.scene.now.place c.args.at.line c.args.at.after c.args.fields (omega (arith, w.if-fields-gt0.false));
-            fit = to_end_room (description c.args.scene.now.tables.now) bits (object_of c.args.scene.now.about) (inner_of c.args.self.now) c.args.scene.now.place c.args.at.line c.args.at.after c.args.fields c.requires.named c.requires.room;
-            near = c.args.scene.now.near;
-          })
-    ]
+    record {
+      moved = λ B l.
+          elim c.if-fields-gt0.branch [
+            | then-fields-gt0+in_ok-tried w ↦
+                quietly_at (same-inner (c.push_both.ensures ∙ (λ i. w.objects-is i ∷ c.lines_after.ensures i ∷ fs)) refl)
+                (record {
+                  same = use_run (description c.args.scene.now.tables.now) B (object_of c.args.scene.now.about) (inner_of c.args.self.now) c.args.scene.now.place c.args.at.line c.args.at.after c.args.fields w.if-fields-gt0.true w.in_ok-tried.field-0 (tried_ok c.args.at.line c.args.scene.now.place w.count.result _ w.in_ok-tried.ensures ∙ w.count.ensures);
+                  fit = counted_room (description c.args.scene.now.tables.now) B (object_of c.args.scene.now.about) (inner_of c.args.self.now) c.args.scene.now.place c.args.at.line c.args.at.after c.args.fields w.in_ok-tried.field-0 c.requires.is c.requires.room;
+                  near = c.args.scene.now.near;
+                })
+            | else-fields-gt0 w ↦
+                quietly_at (same-inner (c.push_both.ensures ∙ (λ i. w.objects-is i ∷ c.lines_after.ensures i ∷ fs)) refl)
+                (record {
+                  same = use_to_end (description c.args.scene.now.tables.now) B (object_of c.args.scene.now.about) (inner_of c.args.self.now) c.args.scene.now.place c.args.at.line c.args.at.after c.args.fields (omega (arith, w.if-fields-gt0.false));
+                  fit = to_end_room (description c.args.scene.now.tables.now) B (object_of c.args.scene.now.about) (inner_of c.args.self.now) c.args.scene.now.place c.args.at.line c.args.at.after c.args.fields c.requires.is c.requires.room;
+                  near = c.args.scene.now.near;
+                })
+          ];
+      bound = λ h. (omega arith, h);
+    }
 
 pub returns-in_err-tried : goal.returns-in_err-tried
 unfolding coded
 returns-in_err-tried g c =
-    let bits = g.S.Source.bits c.args.scene.now.source.now in
     let p = err_from_is_err_and c.from_residual.result c.from_residual.ensures.1 in
     let t = tried_err c.args.at.line c.args.scene.now.place c.count.result _ c.in_err-tried.ensures in
     rw (p.1, p.2) (record {
-      same = λ obj. use_fails (description c.args.scene.now.tables.now) bits (object_of c.args.scene.now.about) (inner_of c.args.self.now) c.args.scene.now.place c.args.at.line c.args.at.after c.args.fields (omega arith) t.0 (t.1 ∙ c.count.ensures) obj ∙ ap stop t.2;
-      fit = c.requires.room.fit;
+      moved = λ B l.
+          record {
+            same = λ obj. use_fails (description c.args.scene.now.tables.now) B (object_of c.args.scene.now.about) (inner_of c.args.self.now) c.args.scene.now.place c.args.at.line c.args.at.after c.args.fields (omega arith) t.0 (t.1 ∙ c.count.ensures) obj ∙ ap stop t.2;
+            fit = c.requires.room.fit;
+          };
+      bound = λ h. tt;
     })

@@ -1,11 +1,12 @@
 use Rattle.std.proofs.Common.{◌≡◌, None}
+use Rattle.reading.specs.Calls.{Keeps}
 use Rattle.reading.specs.Reads.{ahead, skipped, passes}
 use Rattle.reading.proofs.state.Reading.next.Given as goal
 
 abbrev pub invariant-loop-answer : goal.invariant-loop-answer
 invariant-loop-answer g l =
     (l.self.fault ≡ None) × (skipped (ahead g.S.Source.bits l.self) ≡ skipped (ahead g.S.Source.bits l.initial.self))
-    × (l.self.position ≡ l.initial.self.position)
+    × (l.self.last ≡ l.initial.self.last) × Keeps g.S.Source.bits l.initial.self l.self
 
 abbrev pub decreases-loop-answer : goal.decreases-loop-answer
 decreases-loop-answer g l = passes (ahead g.S.Source.bits l.self)

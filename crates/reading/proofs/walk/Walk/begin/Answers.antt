@@ -13,13 +13,17 @@ use Rattle.reading.proofs.Entering.{begin_full, begin_fails}
 use Rattle.reading.proofs.Stepping.{few_open, all_open, sound_near}
 use Rattle.reading.proofs.walk.Walk.begin.Goals as goal
 
-pub returns-then-self-ge-MOST : goal.returns-then-self-ge-MOST
-returns-then-self-ge-MOST g c =
+pub returns-then-self-ge-MOST-clause-moved : goal.returns-then-self-ge-MOST-clause-moved
+returns-then-self-ge-MOST-clause-moved g c =
     let d = description c.args.tables.now in
-    let bits = g.S.Source.bits c.args.view.now.source.now in
     record {
-      same = begin_full d bits (objects_of c.args.self.now) c.args.used c.args.view.now.window c.args.self.now.place (all_open c.args.self.now (omega arith)) ∙ ap stop (sym (c.at.ensures ∙ ap (λ (f : Failure). fault f.cause c.args.used.line f.node c.args.self.now.place) c.from.ensures));
-      sound = c.requires.sound;
+      moved = λ B same.
+          record {
+            same = begin_full d B (objects_of c.args.self.now) c.args.used c.args.view.now.window c.args.self.now.place (all_open c.args.self.now (omega arith)) ∙ ap stop (sym (c.at.ensures ∙ ap (λ (f : Failure). fault f.cause c.args.used.line f.node c.args.self.now.place) c.from.ensures));
+            sound = c.requires.sound;
+          };
+      bound = λ h. tt;
+      ends = λ st. tt;
     }
 
 pub header-requires : goal.header-requires
@@ -40,27 +44,34 @@ enter-requires g c =
       room = few_open c.args.self.now (omega arith);
       readable = c.requires.readable;
       most = c.greatest-greatest.ensures;
+      declared = c.requires.declared;
       short = (bound.2, omega (arith, c.args.view.now.within, g.S.Source.short c.args.view.now.source.now));
+      placed = (bound.0, bound.1);
     }
 
-pub returns : goal.returns
-returns g c =
+pub returns-clause-moved : goal.returns-clause-moved
+returns-clause-moved g c =
     let bits = g.S.Source.bits c.args.view.now.source.now in
     let told = tried_ok c.args.used.line c.args.self.now.place c.header.result c.in_ok-header.header
     (sym c.in_ok-header.was ∙ told_at c.args.used.line c.args.self.now.place c.header.result c.map_err.result _ (λ f y q. search (rules, of_calls)) c.map_err.ensures.cases) in
-    c.enter.ensures bits c.args.view.now.within
+    c.enter.ensures.moved bits c.args.view.now.within
     (told ∙ c.header.ensures.value ∙ (λ i. header bits c.args.view.now.window (c.class.ensures i) (c.greatest-greatest.ensures i) c.args.self.now.place))
 
-pub returns-in_err-header : goal.returns-in_err-header
-returns-in_err-header g c =
+pub returns-in_err-header-clause-moved : goal.returns-in_err-header-clause-moved
+returns-in_err-header-clause-moved g c =
     let d = description c.args.tables.now in
-    let bits = g.S.Source.bits c.args.view.now.source.now in
     let p = err_from_is_err_and c.from_residual.result c.from_residual.ensures.1 in
     let t = tried_err c.args.used.line c.args.self.now.place c.header.result _
     (sym c.in_err-header.was ∙ told_at c.args.used.line c.args.self.now.place c.header.result c.map_err.result _ (λ f y q. search (rules, of_calls)) c.map_err.ensures.cases) in
     rw (p.1, p.2) (record {
-      same = begin_fails d bits (objects_of c.args.self.now) c.args.used c.args.view.now.window c.args.self.now.place (few_open c.args.self.now (omega arith)) t.0
-          (t.1 ∙ c.header.ensures.value ∙ (λ i. header bits c.args.view.now.window (c.class.ensures i) (c.greatest-greatest.ensures i) c.args.self.now.place))
-          ∙ ap stop t.2;
-      sound = c.requires.sound;
+      moved = λ B same.
+          let back = sym same in
+          record {
+            same = begin_fails d B (objects_of c.args.self.now) c.args.used c.args.view.now.window c.args.self.now.place (few_open c.args.self.now (omega arith)) t.0
+                (t.1 ∙ c.header.ensures.value ∙ (λ i. header (back i) c.args.view.now.window (c.class.ensures i) (c.greatest-greatest.ensures i) c.args.self.now.place))
+                ∙ ap stop t.2;
+            sound = c.requires.sound;
+          };
+      bound = λ h. tt;
+      ends = λ st. tt;
     })

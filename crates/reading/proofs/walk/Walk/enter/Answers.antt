@@ -1,42 +1,86 @@
-use Rattle.std.proofs.Common.{◌≡◌, ◌≤◌, true, not, ◌||◌, eqb, ◌∷◌, length, sym, ap, ◌∙◌, subst, arith}
-use Rattle.table.specs.Description.{description}
+use Rattle.std.proofs.Common.{◌≡◌, ◌≤◌, Bool, true, not, ◌||◌, eqb, List, [], ◌∷◌, length, sym, refl, ap, ◌∙◌, subst, arith}
+use Rattle.table.specs.Description.{description, class_at}
 use Rattle.rules.specs.declared.faults.Failure.{Failure}
+use Rattle.rules.specs.declared.items.Item.{Item}
+use Rattle.rules.specs.declared.items.Kind.{Kind}
+use Rattle.rules.specs.declared.items.Kind.TheVariants.{Open}
+use Rattle.rules.specs.declared.steps.Window.{Window}
 use Rattle.rules.specs.Checks.{fault}
 use Rattle.rules.specs.Trace.{out, stop}
 use Rattle.rules.specs.Lookups.{greatest}
-use Rattle.rules.specs.Reading.{inner}
-use Rattle.reading.specs.Walks.{objects_of, rest}
-use Rattle.reading.proofs.Entering.{begin_unknown, begin_enters, inner_end}
+use Rattle.rules.specs.Order.{declared_at}
+use Rattle.rules.specs.Reading.{inner, open_item}
+use Rattle.rules.specs.Steps.{header}
+use Rattle.objects.specs.Likewise.{Alike}
+use Rattle.objects.proofs.Alikes.{header_alike}
+use Rattle.reading.specs.declared.open_object.OpenObject.{OpenObject}
+use Rattle.reading.specs.Walks.{objects_of, rest, looked_to, Enclosed}
+use Rattle.reading.proofs.Enclosing.{handed_other, enclosed_less}
+use Rattle.reading.proofs.Entering.{begin_unknown, begin_enters, inner_end, inner-after}
+use Rattle.reading.proofs.Opening.{own_end}
 use Rattle.reading.proofs.Stepping.{known_class, known_greatest, pushed_ahead, pushed_sound}
 use Rattle.reading.proofs.walk.Walk.enter.Goals as goal
 use Rattle.reading.proofs.walk.Walk.enter.Goals.{else-class-eq0-via-then-class-eq0+else-greatest-eq0, else-class-eq0-via-else-class-eq0}
 
-pub returns-then-greatest-eq0 : goal.returns-then-greatest-eq0
-returns-then-greatest-eq0 c = λ bits w e.
+pub returns-then-greatest-eq0-clause-moved : goal.returns-then-greatest-eq0-clause-moved
+returns-then-greatest-eq0-clause-moved c = λ bits n e.
+    let d = description c.args.tables.now in
+    let u = c.args.used in
+    let w = c.args.self.now in
     record {
-      same = begin_unknown (description c.args.tables.now) bits (objects_of c.args.self.now) c.args.used c.args.window c.args.self.now.place c.requires.room c.args.header e (sym c.object_class-class.ensures ∙ c.if-class-eq0.true) (sym c.requires.most ∙ c.if-greatest-eq0.true) ∙ ap stop (sym (c.at.ensures ∙ ap (λ (f : Failure). fault f.cause c.args.used.line f.node c.args.self.now.place) c.from.ensures));
-      sound = c.requires.sound;
+      moved = λ B same.
+          let e' = e ∙ ap (λ (x : List Bool). header x c.args.window (class_at d u.class) (greatest d u.class) w.place) (sym same) in
+          record {
+            same = begin_unknown d B (objects_of w) u c.args.window w.place c.requires.room c.args.header e' (sym c.object_class-class.ensures ∙ c.if-class-eq0.true) (sym c.requires.most ∙ c.if-greatest-eq0.true) ∙ ap stop (sym (c.at.ensures ∙ ap (λ (f : Failure). fault f.cause u.line f.node w.place) c.from.ensures));
+            sound = c.requires.sound;
+          };
+      bound = λ h. tt;
+      ends = λ st. tt;
     }
 
-pub returns : goal.returns
-returns c = λ bits w e.
+pub returns-clause-moved : goal.returns-clause-moved
+returns-clause-moved c = λ bits n e.
     let d = description c.args.tables.now in
     let m = c.requires.most in
     let h = c.args.header in
-    let win : c.inner.result ≡ inner d bits (greatest d c.args.used.class) h c.args.window = c.inner.ensures d bits ∙ ap (λ k. inner d bits k h c.args.window) m in
-    let known : (not (eqb c.object_class-class.result 0) || not (eqb (greatest d c.args.used.class) 0)) ≡ true =
+    let u = c.args.used in
+    let w = c.args.self.now in
+    let v = c.push.new.self in
+    let item = c.open_item.result in
+    let kind : item.kind ≡ Open = ap (λ (x : Item). x.kind) c.open_item.ensures in
+    let place : item.place ≡ h.place = ap (λ (x : Item). x.place) c.open_item.ensures in
+    let after : v.place ≡ h.after = c.push.ensures.place in
+    let known : (not (eqb c.object_class-class.result 0) || not (eqb (greatest d u.class) 0)) ≡ true =
     subst (λ k. (not (eqb c.object_class-class.result 0) || not (eqb k 0)) ≡ true) m
     (elim c.else-class-eq0.branch [
       | else-class-eq0-via-then-class-eq0+else-greatest-eq0 v ↦ known_greatest c.object_class-class.result c.args.greatest v.if-greatest-eq0.false
       | else-class-eq0-via-else-class-eq0 v ↦ known_class c.object_class-class.result c.args.greatest v.if-class-eq0.false
     ]) in
-    let end : (inner d bits (greatest d c.args.used.class) h c.args.window).end ≤ length bits =
-    (let k = inner_end d bits (greatest d c.args.used.class) h c.args.window c.requires.short.0 in omega arith) in
     record {
-      same =
-          begin_enters (description c.args.tables.now) bits (objects_of c.args.self.now) c.args.used c.args.window c.args.self.now.place c.requires.room c.args.header e c.object_class-class.result c.object_class-class.ensures known end c.begun.result c.begun.ensures
-          ∙ sym (λ i. out (c.open_item.ensures i)
-          (rest d bits (record { opened = record { about = record { class = c.object_class-class.result; size = h.size; window = win i }; greatest = m i; used = c.args.used }; inside = c.begun.result } ∷ objects_of c.args.self.now) h.after))
-          ∙ ap (out c.open_item.result) (sym (pushed_ahead d bits _ _ c.args.self.now c.push.new.self c.push.ensures));
-      sound = pushed_sound d bits _ _ c.args.self.now c.push.new.self c.push.ensures c.requires.sound c.begun.ensures.fit (omega (arith, c.requires.short.0, c.requires.short.1));
+      moved = λ B l.
+          let win : c.inner.result ≡ inner d B (greatest d u.class) h c.args.window = c.inner.ensures d B ∙ ap (λ k. inner d B k h c.args.window) m in
+          let long = l.long in
+          let end : (inner d B (greatest d u.class) h c.args.window).end ≤ length B =
+          (let k = inner_end d B (greatest d u.class) h c.args.window c.requires.short.0 in omega arith) in
+          let to : looked_to item.kind item.place item.length v.place ≡ h.after = ap (λ (k : Kind). looked_to k item.place item.length v.place) kind ∙ after in
+          let e' = header_alike bits B c.args.window w.place (class_at d u.class) (greatest d u.class) h (subst (λ q. Alike bits B w.place q) to l) e in
+          record {
+            same =
+                begin_enters d B (objects_of w) u c.args.window w.place c.requires.room h e' c.object_class-class.result c.object_class-class.ensures known end c.begun.result c.begun.ensures
+                ∙ sym (λ i. out (c.open_item.ensures i)
+                (rest d B (record { opened = record { about = record { class = c.object_class-class.result; size = h.size; window = win i }; greatest = m i; used = u }; inside = c.begun.result } ∷ objects_of w) h.after))
+                ∙ ap (out item) (sym (pushed_ahead d B _ _ w v c.push.ensures));
+            sound = pushed_sound d B _ _ w v c.push.ensures c.requires.sound c.begun.ensures.fit (omega (arith, c.requires.short.0, c.requires.short.1));
+          };
+      bound = λ k.
+          let within : (h.after ≤ c.inner.result.end) × (c.inner.result.end ≤ c.args.window.end) =
+          subst (λ (x : Window). (h.after ≤ x.end) × (x.end ≤ c.args.window.end)) (sym (c.inner.ensures d [])) (inner-after d [] c.args.greatest h c.args.window c.requires.short.0, inner_end d [] c.args.greatest h c.args.window c.requires.short.0) in
+          handed_other (length bits) w.place item Open v kind refl (omega (arith, c.requires.placed.0)) (omega (arith, c.requires.placed.1)) c.push.ensures.started
+          (subst (λ (os : List OpenObject). Enclosed (length bits) os v.place) (sym c.push.ensures.objects) (omega (arith, within.0), enclosed_less (length bits) (objects_of w) c.args.window.end c.inner.result.end within.1 k));
+      ends = λ st f.
+          let declared : u.class ≡ declared_at d item.line = sym (ap (λ (x : Item). declared_at d x.line) c.open_item.ensures ∙ c.requires.declared) in
+          let read = e ∙ ap (λ k. header bits c.args.window (class_at d k) (greatest d k) w.place) declared in
+          let is : item ≡ open_item item.class item.line item.index h = c.open_item.ensures ∙ sym (λ t. open_item (c.open_item.ensures t).class (c.open_item.ensures t).line (c.open_item.ensures t).index h) in
+          let to = after ∙ own_end d bits w.place item c.args.window h n read is f in
+          record { after = to; looked = ap (λ (k : Kind). looked_to k item.place item.length v.place) kind ∙ to };
     }

@@ -5,4 +5,4 @@ use Rattle.reading.proofs.walk.Walk.new.Goals as goal
 
 pub returns : goal.returns
 unfolding Sound objects_of AllFit tops
-returns c = ((λ d bits. refl), (λ d. (tt, omega arith)))
+returns c = ((λ d bits. refl), (λ d. (tt, omega arith)), refl)

@@ -1,4 +1,4 @@
-use Rattle.std.proofs.Common.{◌<◌, refl, arith}
+use Rattle.std.proofs.Common.{◌<◌, refl, arith, get_or-set_other}
 use Rattle.objects.proofs.Stacks.{stack_push, stack_room}
 use Rattle.reading.specs.Walks.{objects_of, no_object}
 use Rattle.reading.proofs.walk.Walk.push.Goals as goal
@@ -23,4 +23,4 @@ pub returns : goal.returns
 unfolding objects_of
 returns c =
     let h : c.args.self.now.depth < 16 = stack_room no_object c.args.self.now.objects c.args.self.now.depth 16 c.requires in
-    record { objects = stack_push no_object c.args.self.now.objects c.args.self.now.depth 16 c.args.object h (omega arith); place = refl; started = refl }
+    record { objects = stack_push no_object c.args.self.now.objects c.args.self.now.depth 16 c.args.object h (omega arith); place = refl; started = refl; kept = λ j l. get_or-set_other c.args.self.now.objects c.args.self.now.depth j c.args.object no_object (omega arith) }

@@ -1,12 +1,18 @@
-use Rattle.std.proofs.Common.{◌≡◌, ◌≤◌, Ok, Err, length, get_or, set, sym, ap, ◌∙◌, subst, arith, get_or-set_same}
+use Rattle.std.proofs.Common.{◌≡◌, ℕ, ◌≤◌, Some, Ok, Err, length, get_or, set, sym, refl, ap, ◌∙◌, subst, arith, get_or-set_same}
 use Rattle.std.proofs.lemmas.List.{get_or_default}
 use Rattle.table.specs.Description.{description}
+use Rattle.records.specs.declared.statements.Statement.TheVariants.{Use}
+use Rattle.rules.specs.declared.items.Kind.{Kind}
 use Rattle.objects.specs.declared.inside.About.{About}
 use Rattle.objects.specs.declared.moves.Move.TheVariants.{Quiet, Give, Begin, Leave}
+use Rattle.objects.specs.Likewise.{Alike}
+use Rattle.objects.proofs.Alikes.{alike_self}
+use Rattle.objects.proofs.NextLines.{line_named, line_declared}
 use Rattle.reading.specs.declared.open_object.OpenObject.{OpenObject}
-use Rattle.reading.specs.Walks.{no_object, cut}
-use Rattle.reading.proofs.Stepping.{none_open, sound_near, answered_from, not_begun_ahead}
-use Rattle.reading.proofs.Turns.{StepOf, fits, changed_sound, turned_quiet, turned_give, turned_refuse, turned_begin, turned_leave}
+use Rattle.reading.specs.Walks.{no_object, cut, looked_to, Within, Handed}
+use Rattle.reading.proofs.Enclosing.{begun_from, not_begun_from, begun_enclosed, walked_from, value_alike, in_cut, enclosed_still, enclosed_window, quiet_within, give_within}
+use Rattle.reading.proofs.Stepping.{none_open, sound_near, not_begun_ahead}
+use Rattle.reading.proofs.Turns.{StepOf, fits, changed, objects_are, changed_sound, turned_quiet, turned_give, turned_refuse, turned_begin, turned_leave}
 use Rattle.reading.proofs.walk.Walk.step.Goals as goal
 
 pub finish-requires : goal.finish-requires
@@ -37,43 +43,113 @@ step-requires g c =
     let it = get_or w.objects i c.index-self-i-2.result in
     (fits d bits w i c.innermost-i.ensures c.if-not-self.false c.requires.sound (omega arith) it (get_or_default w.objects i c.index-self-i-2.result no_object (omega arith))).0
 
-pub returns-in-Err : goal.returns-in-Err
-returns-in-Err g c =
+pub returns-in-Err-clause-moved : goal.returns-in-Err-clause-moved
+returns-in-Err-clause-moved g c =
     let d = description c.args.tables.now in
     let bits = g.S.Source.bits c.args.source.now in
     let w = c.args.self.now in
     let i = c.innermost-i.result in
+    let e = c.innermost-i.ensures in
     let started = c.if-not-self.false in
+    let sound = c.requires.sound in
     let it = get_or w.objects i c.index-self-i-2.result in
     let is : it ≡ get_or w.objects i no_object = get_or_default w.objects i c.index-self-i-2.result no_object (omega arith) in
-    let ab : c.within.result ≡ cut (length bits) it.opened.about = c.within.ensures ∙ (λ t. cut (c.length-count.ensures t) (get_or_default w.objects i c.index-self-i.result c.index-self-i-2.result (omega arith) t).opened.about) in
-    turned_refuse d bits w i c.innermost-i.ensures started c.requires.sound (omega arith) it is c.step.new.self c.in-Err.fault (subst (λ (x : About). StepOf d bits x it.inside w.place (Err c.in-Err.fault) c.step.new.self) ab c.in-Err.ensures)
+    let at = λ (n : ℕ) (long : length bits ≡ n). c.within.ensures ∙ (λ t. cut ((c.length-count.ensures ∙ long) t) (get_or_default w.objects i c.index-self-i.result c.index-self-i-2.result (omega arith) t).opened.about) in
+    let end = ap (λ (x : About). x.window.end) (at (length bits) refl) in
+    let from = begun_from w started in
+    let j = c.step.new.self in
+    let f = c.in-Err.fault in
+    record {
+      moved = λ B same.
+          turned_refuse d B w i e started sound (omega arith) it is j f
+          (subst (λ (x : About). StepOf d B x it.inside w.place (Err f) j) (at (length B) (ap length (sym same))) (c.in-Err.ensures.moved B same));
+      bound = λ h. tt;
+      ends = λ st. tt;
+    }
 
-pub returns-in-Ok-Quiet : goal.returns-in-Ok-Quiet
-returns-in-Ok-Quiet g c =
+pub returns-in-Ok-Quiet-clause-moved : goal.returns-in-Ok-Quiet-clause-moved
+returns-in-Ok-Quiet-clause-moved g c =
     let d = description c.args.tables.now in
     let bits = g.S.Source.bits c.args.source.now in
     let w = c.args.self.now in
     let i = c.innermost-i.result in
+    let e = c.innermost-i.ensures in
     let started = c.if-not-self.false in
+    let sound = c.requires.sound in
     let it = get_or w.objects i c.index-self-i-2.result in
     let is : it ≡ get_or w.objects i no_object = get_or_default w.objects i c.index-self-i-2.result no_object (omega arith) in
-    let ab : c.within.result ≡ cut (length bits) it.opened.about = c.within.ensures ∙ (λ t. cut (c.length-count.ensures t) (get_or_default w.objects i c.index-self-i.result c.index-self-i-2.result (omega arith) t).opened.about) in
+    let at = λ (n : ℕ) (long : length bits ≡ n). c.within.ensures ∙ (λ t. cut ((c.length-count.ensures ∙ long) t) (get_or_default w.objects i c.index-self-i.result c.index-self-i-2.result (omega arith) t).opened.about) in
+    let end = ap (λ (x : About). x.window.end) (at (length bits) refl) in
+    let from = begun_from w started in
+    let j = c.step.new.self in
+    let q = c.in-Ok-Quiet.place in
     let m = rw c.in-Ok-Quiet.field-0-is at c.in-Ok-Quiet.ensures in
-    turned_quiet d bits w i c.innermost-i.ensures started c.requires.sound (omega arith) it is c.step.new.self c.in-Ok-Quiet.place (subst (λ (x : About). StepOf d bits x it.inside w.place (Ok (Quiet c.in-Ok-Quiet.place)) c.step.new.self) ab m)
+    record {
+      moved = λ B l.
+          turned_quiet d B w i e started sound (omega arith) it is j q
+          (subst (λ (x : About). StepOf d B x it.inside w.place (Ok (Quiet q)) j) (at (length B) l.long) (m.moved B (subst (λ p. Alike bits B p q) from l)));
+      bound = λ h.
+          let k = begun_enclosed (length bits) w started h in
+          subst (λ p. Within (length bits) p (changed d bits w i e started sound (omega arith) it is j q)) (sym from)
+          (quiet_within (length bits) w i e k it is c.within.result.window.end end _ j (objects_are d bits w i e started sound (omega arith) it is j q) started
+          (m.bound (in_cut (length bits) w i e k it is c.within.result.window.end end)));
+      ends = λ st. tt;
+    }
 
-pub returns-in-Ok-Give : goal.returns-in-Ok-Give
-returns-in-Ok-Give g c =
+pub returns-in-Ok-Give-clause-moved : goal.returns-in-Ok-Give-clause-moved
+returns-in-Ok-Give-clause-moved g c =
     let d = description c.args.tables.now in
     let bits = g.S.Source.bits c.args.source.now in
     let w = c.args.self.now in
     let i = c.innermost-i.result in
+    let e = c.innermost-i.ensures in
     let started = c.if-not-self.false in
+    let sound = c.requires.sound in
     let it = get_or w.objects i c.index-self-i-2.result in
     let is : it ≡ get_or w.objects i no_object = get_or_default w.objects i c.index-self-i-2.result no_object (omega arith) in
-    let ab : c.within.result ≡ cut (length bits) it.opened.about = c.within.ensures ∙ (λ t. cut (c.length-count.ensures t) (get_or_default w.objects i c.index-self-i.result c.index-self-i-2.result (omega arith) t).opened.about) in
+    let at = λ (n : ℕ) (long : length bits ≡ n). c.within.ensures ∙ (λ t. cut ((c.length-count.ensures ∙ long) t) (get_or_default w.objects i c.index-self-i.result c.index-self-i-2.result (omega arith) t).opened.about) in
+    let end = ap (λ (x : About). x.window.end) (at (length bits) refl) in
+    let from = begun_from w started in
+    let j = c.step.new.self in
+    let q = c.in-Ok-Give.place in
+    let x = c.in-Ok-Give.item in
     let m = rw c.in-Ok-Give.field-0-is at c.in-Ok-Give.ensures in
-    turned_give d bits w i c.innermost-i.ensures started c.requires.sound (omega arith) it is c.step.new.self c.in-Ok-Give.place c.in-Ok-Give.item (subst (λ (x : About). StepOf d bits x it.inside w.place (Ok (Give c.in-Ok-Give.item c.in-Ok-Give.place)) c.step.new.self) ab m)
+    let kind = (m.moved bits alike_self).kind in
+    record {
+      moved = λ B l.
+          turned_give d B w i e started sound (omega arith) it is j q x
+          (subst (λ (y : About). StepOf d B y it.inside w.place (Ok (Give x q)) j) (at (length B) l.long)
+          (m.moved B (value_alike bits B w.place x q kind (subst (λ p. Alike bits B p (looked_to x.kind x.place x.length q)) from l))));
+      bound = λ h.
+          let k = begun_enclosed (length bits) w started h in
+          subst (λ p. Handed (length bits) p x (changed d bits w i e started sound (omega arith) it is j q)) (sym from)
+          (give_within (length bits) w i e k it is c.within.result.window.end end _ j (objects_are d bits w i e started sound (omega arith) it is j q) started x kind
+          (m.bound (in_cut (length bits) w i e k it is c.within.result.window.end end)));
+      ends = λ st f.
+          let o = (m.moved bits alike_self).ends st in
+          record { after = o.after; looked = ap (λ (k : Kind). looked_to k x.place x.length q) kind ∙ o.long };
+    }
+
+pub invariant_of-used : goal.invariant_of-used
+invariant_of-used g c =
+    let d = description c.args.tables.now in
+    let bits = g.S.Source.bits c.args.source.now in
+    let w = c.args.self.now in
+    let i = c.innermost-i.result in
+    let e = c.innermost-i.ensures in
+    let started = c.if-not-self.false in
+    let sound = c.requires.sound in
+    let it = get_or w.objects i c.index-self-i-2.result in
+    let is : it ≡ get_or w.objects i no_object = get_or_default w.objects i c.index-self-i-2.result no_object (omega arith) in
+    let at = λ (n : ℕ) (long : length bits ≡ n). c.within.ensures ∙ (λ t. cut ((c.length-count.ensures ∙ long) t) (get_or_default w.objects i c.index-self-i.result c.index-self-i-2.result (omega arith) t).opened.about) in
+    let end = ap (λ (x : About). x.window.end) (at (length bits) refl) in
+    let from = begun_from w started in
+    let j = c.step.new.self in
+    let line = c.in-Ok-Begin.line in
+    let fields = c.in-Ok-Begin.fields in
+    let all = rw c.in-Ok-Begin.field-0-is at c.in-Ok-Begin.ensures in
+    let m = subst (λ (x : About). StepOf d bits x it.inside w.place (Ok (Begin line fields c.in-Ok-Begin.index)) j) (at (length bits) refl) (all.moved bits refl) in
+    record { named = line_named d line (Use fields) m.uses c.requires.readable }
 
 pub begin-requires : goal.begin-requires
 begin-requires g c =
@@ -81,51 +157,88 @@ begin-requires g c =
     let bits = g.S.Source.bits c.args.source.now in
     let w = c.args.self.now in
     let i = c.innermost-i.result in
+    let e = c.innermost-i.ensures in
     let started = c.if-not-self.false in
+    let sound = c.requires.sound in
     let it = get_or w.objects i c.index-self-i-2.result in
     let is : it ≡ get_or w.objects i no_object = get_or_default w.objects i c.index-self-i-2.result no_object (omega arith) in
-    let ab : c.within.result ≡ cut (length bits) it.opened.about = c.within.ensures ∙ (λ t. cut (c.length-count.ensures t) (get_or_default w.objects i c.index-self-i.result c.index-self-i-2.result (omega arith) t).opened.about) in
-    let m = subst (λ (x : About). StepOf d bits x it.inside w.place (Ok (Begin c.in-Ok-Begin.line c.in-Ok-Begin.fields c.in-Ok-Begin.index)) c.step.new.self) ab rw c.in-Ok-Begin.field-0-is at c.in-Ok-Begin.ensures in
+    let at = λ (n : ℕ) (long : length bits ≡ n). c.within.ensures ∙ (λ t. cut ((c.length-count.ensures ∙ long) t) (get_or_default w.objects i c.index-self-i.result c.index-self-i-2.result (omega arith) t).opened.about) in
+    let end = ap (λ (x : About). x.window.end) (at (length bits) refl) in
+    let from = begun_from w started in
+    let j = c.step.new.self in
+    let line = c.in-Ok-Begin.line in
+    let fields = c.in-Ok-Begin.fields in
+    let all = rw c.in-Ok-Begin.field-0-is at c.in-Ok-Begin.ensures in
+    let m = subst (λ (x : About). StepOf d bits x it.inside w.place (Ok (Begin line fields c.in-Ok-Begin.index)) j) (at (length bits) refl) (all.moved bits refl) in
     record {
-      sound = changed_sound d bits w i c.innermost-i.ensures started c.requires.sound (omega arith) it is c.step.new.self w.place m.fit (sound_near d w c.requires.sound);
+      sound = changed_sound d bits w i e started sound (omega arith) it is j w.place m.fit (sound_near d w sound);
       readable = c.requires.readable;
+      declared = line_declared d line (Use fields) m.uses;
     }
 
-pub returns-in-Ok-Begin : goal.returns-in-Ok-Begin
-returns-in-Ok-Begin g c =
+pub returns-in-Ok-Begin-clause-moved : goal.returns-in-Ok-Begin-clause-moved
+returns-in-Ok-Begin-clause-moved g c =
     let d = description c.args.tables.now in
     let bits = g.S.Source.bits c.args.source.now in
     let w = c.args.self.now in
     let i = c.innermost-i.result in
+    let e = c.innermost-i.ensures in
     let started = c.if-not-self.false in
+    let sound = c.requires.sound in
     let it = get_or w.objects i c.index-self-i-2.result in
     let is : it ≡ get_or w.objects i no_object = get_or_default w.objects i c.index-self-i-2.result no_object (omega arith) in
-    let ab : c.within.result ≡ cut (length bits) it.opened.about = c.within.ensures ∙ (λ t. cut (c.length-count.ensures t) (get_or_default w.objects i c.index-self-i.result c.index-self-i-2.result (omega arith) t).opened.about) in
-    let m = subst (λ (x : About). StepOf d bits x it.inside w.place (Ok (Begin c.in-Ok-Begin.line c.in-Ok-Begin.fields c.in-Ok-Begin.index)) c.step.new.self) ab rw c.in-Ok-Begin.field-0-is at c.in-Ok-Begin.ensures in
-    let begun = rw (c.view.ensures.source, c.view.ensures.window) at c.begin.ensures in
-    answered_from d bits c.begin.result c.begin.new.self
-    (turned_begin d bits w i c.innermost-i.ensures started c.requires.sound (omega arith) it is c.step.new.self c.in-Ok-Begin.line c.in-Ok-Begin.fields c.in-Ok-Begin.index c.within.result.window (ap (λ (x : About). x.window) ab) m) begun
+    let at = λ (n : ℕ) (long : length bits ≡ n). c.within.ensures ∙ (λ t. cut ((c.length-count.ensures ∙ long) t) (get_or_default w.objects i c.index-self-i.result c.index-self-i-2.result (omega arith) t).opened.about) in
+    let end = ap (λ (x : About). x.window.end) (at (length bits) refl) in
+    let from = begun_from w started in
+    let j = c.step.new.self in
+    let line = c.in-Ok-Begin.line in
+    let fields = c.in-Ok-Begin.fields in
+    let index = c.in-Ok-Begin.index in
+    let all = rw c.in-Ok-Begin.field-0-is at c.in-Ok-Begin.ensures in
+    let begun = rw (c.view.ensures.source, c.view.ensures.window) at c.begin.ensures.moved in
+    walked_from d bits _ w.place (Some c.begin.result) c.begin.new.self from
+    (λ B long.
+    let ab = at (length B) long in
+    let m = subst (λ (x : About). StepOf d B x it.inside w.place (Ok (Begin line fields index)) j) ab (all.moved B long) in
+    turned_begin d B w i e started sound (omega arith) it is j line fields index (line_named d line (Use fields) m.uses c.requires.readable) c.within.result.window (ap (λ (x : About). x.window) ab) m)
+    (λ h. enclosed_window (length bits) w i e (begun_enclosed (length bits) w started h) it is c.within.result.window.end end _ j (objects_are d bits w i e started sound (omega arith) it is j w.place))
+    begun
 
 pub leave-requires : goal.leave-requires
 leave-requires g c = record { innermost = c.innermost-i.ensures; started = c.if-not-self.false }
 
-pub returns-in-Ok-Leave : goal.returns-in-Ok-Leave
-returns-in-Ok-Leave g c =
+pub returns-in-Ok-Leave-clause-moved : goal.returns-in-Ok-Leave-clause-moved
+returns-in-Ok-Leave-clause-moved g c =
     let d = description c.args.tables.now in
     let bits = g.S.Source.bits c.args.source.now in
     let w = c.args.self.now in
     let i = c.innermost-i.result in
+    let e = c.innermost-i.ensures in
     let started = c.if-not-self.false in
+    let sound = c.requires.sound in
     let it = get_or w.objects i c.index-self-i-2.result in
     let is : it ≡ get_or w.objects i no_object = get_or_default w.objects i c.index-self-i-2.result no_object (omega arith) in
-    let ab : c.within.result ≡ cut (length bits) it.opened.about = c.within.ensures ∙ (λ t. cut (c.length-count.ensures t) (get_or_default w.objects i c.index-self-i.result c.index-self-i-2.result (omega arith) t).opened.about) in
-    let left : OpenObject = record { opened = it.opened; inside = c.step.new.self } in
+    let at = λ (n : ℕ) (long : length bits ≡ n). c.within.ensures ∙ (λ t. cut ((c.length-count.ensures ∙ long) t) (get_or_default w.objects i c.index-self-i.result c.index-self-i-2.result (omega arith) t).opened.about) in
+    let end = ap (λ (x : About). x.window.end) (at (length bits) refl) in
+    let from = begun_from w started in
+    let j = c.step.new.self in
+    let all = rw c.in-Ok-Leave.field-0-is at c.in-Ok-Leave.ensures in
+    let left : OpenObject = record { opened = it.opened; inside = j } in
     let now = get_or (set w.objects i left) i c.index-self-i-in-Ok-Leave.result in
     let there : now ≡ left = get_or-set_same w.objects i left c.index-self-i-in-Ok-Leave.result (omega arith) in
-    c.leave.ensures d bits _ (turned_leave d bits w i c.innermost-i.ensures started c.requires.sound (omega arith) it is c.step.new.self (record { about = c.within.result; greatest = now.opened.greatest; used = now.opened.used }) (λ t. record { about = ab t; greatest = (there t).opened.greatest; used = (there t).opened.used }) (g.S.Source.short c.args.source.now) (subst (λ (x : About). StepOf d bits x it.inside w.place (Ok Leave) c.step.new.self) ab (rw c.in-Ok-Leave.field-0-is at c.in-Ok-Leave.ensures)))
+    walked_from d bits _ w.place (Some c.leave.result) c.leave.new.self from (λ B long. refl)
+    (λ h. enclosed_still (length bits) w i e (begun_enclosed (length bits) w started h) it is _ j (objects_are d bits w i e started sound (omega arith) it is j w.place))
+    (c.leave.ensures.moved d bits _
+    (λ B long.
+    let ab = at (length B) long in
+    turned_leave d B w i e started sound (omega arith) it is j (record { about = c.within.result; greatest = now.opened.greatest; used = now.opened.used })
+    (λ t. record { about = ab t; greatest = (there t).opened.greatest; used = (there t).opened.used })
+    (subst (λ n. n ≤ 2147483647) long (g.S.Source.short c.args.source.now))
+    (subst (λ (x : About). StepOf d B x it.inside w.place (Ok Leave) j) ab (all.moved B long))))
 
-pub returns-then-not-self : goal.returns-then-not-self
-returns-then-not-self g c =
+pub returns-then-not-self-clause-moved : goal.returns-then-not-self-clause-moved
+returns-then-not-self-clause-moved g c =
     let d = description c.args.tables.now in
-    let bits = g.S.Source.bits c.args.source.now in
-    answered_from d bits c.start.result c.start.new.self (not_begun_ahead d bits c.args.self.now c.if-not-self.true) c.start.ensures
+    let w = c.args.self.now in
+    walked_from d (g.S.Source.bits c.args.source.now) _ 0 (Some c.start.result) c.start.new.self (not_begun_from w c.if-not-self.true)
+    (λ B long. not_begun_ahead d B w c.if-not-self.true) (λ h. tt) c.start.ensures

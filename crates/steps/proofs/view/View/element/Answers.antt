@@ -1,4 +1,4 @@
-use Rattle.std.proofs.Common.{int_le, of_calls, arith, to_z-of_z, w64, SFits, rules}
+use Rattle.std.proofs.Common.{int_le, of_calls, to_z-of_z, w64, SFits, rules}
 use Rattle.std.proofs.lemmas.Result.{err_from_is_err_and}
 use Rattle.values.specs.Scopes.{value_in}
 use Rattle.steps.proofs.Read.{element_unaligned, element_no_width, element_bad_width, element_no_bits, element_low, element_high, element_got}
@@ -53,5 +53,10 @@ returns g c =
     let high = c.in_ok-bounded-2.ensures (λ b. int_le c.read_value-value.result b) (λ v r q. search (rules, of_calls)) in
     record {
       value = simp to_z-of_z (element_got (g.S.Source.bits c.args.self.now.source.now) c.args.self.now.window c.args.line (value_in c.args.scope.now c.args.line.width) (value_in c.args.scope.now c.args.line.lowest) (value_in c.args.scope.now c.args.line.highest) c.args.p c.in_ok-place.place c.in_ok-place.ensures.value c.in_ok-value.field-0 c.in_ok-value.ensures c.in_ok-length.length nat c.in_ok-raw.raw c.in_ok-raw.ensures.value c.read_value-value.result c.read_value-value.ensures low high c.place_after.result c.place_after.ensures.value);
-      bound = omega (arith, c.place_after.ensures.bound, c.in_ok-raw.ensures.bound.1);
+      bound = record {
+        ahead = c.in_ok-place.ensures.bound.0;
+        kept = c.place_after.ensures.bound.0;
+        most = c.place_after.ensures.bound.1;
+        within = c.in_ok-raw.ensures.bound.1;
+      };
     }

@@ -22,5 +22,10 @@ returns g c =
     let fv : SFits w64 c.in_ok-value.value = search rules in
     rw c.from-length.ensures (simp to_z-of_z (record {
       value = λ d e. mapped_got (g.S.Source.bits c.args.self.now.source.now) c.args.self.now.window c.args.map.width (find_row d c.args.map.first c.args.map.number) c.args.p c.in_ok-index.index t c.in_ok-value.value (rw c.from.ensures at c.in_ok-value.ensures d e);
-      bound = (omega arith, omega (arith, c.from-length.ensures, c.in_ok-index.ensures.bound.1));
+      bound = record {
+        ahead = omega arith;
+        kept = omega arith;
+        most = omega arith;
+        within = omega (arith, c.from-length.ensures, c.in_ok-index.ensures.bound.1);
+      };
     }))

@@ -1,0 +1,223 @@
+-- Offering an item: steps one after another, and putting a walk back.
+use Rattle.std.proofs.Common.{◌≡◌, ◌≢◌, ℕ, zero, suc, ◌-◌, ◌<◌, ◌≤◌, min, Bool, true, false, not, ◌||◌, eqb, List, ◌∷◌, length, get_or, set, Some, None, Ok, Err, sym, refl, ap, ◌∙◌, subst, ap₂, arith, get_or-set_same, get_or-set_other}
+use native.Mathlib.Decide.{dec_le}
+use Rattle.std.proofs.lemmas.List.{length-set}
+use Rattle.table.specs.Description.{Description, class_at}
+use Rattle.rules.specs.declared.items.Item.{Item}
+use Rattle.rules.specs.Trace.{Run, out, pass, stop, done, bind}
+use Rattle.rules.specs.Checks.{Check, attempt, ensure}
+use Rattle.rules.specs.Reading.{State, reading, object, opened}
+use Rattle.rules.specs.declared.faults.ReadingCause.TheVariants.{UnknownId}
+use Rattle.rules.specs.declared.steps.Window.{Window}
+use Rattle.rules.specs.Lookups.{greatest, object_class}
+use Rattle.rules.specs.Steps.{header}
+use Rattle.std.proofs.lemmas.Bool.Decides.{nat_tests}
+use Rattle.roundtrip.specs.Standing.{head, gives, ends}
+use Rattle.objects.specs.Likewise.{Alike}
+use Rattle.objects.specs.Tops.{tops}
+use Rattle.objects.proofs.Alikes.{alike_self}
+use Rattle.reading.specs.declared.offering.Saved.{Saved}
+use Rattle.reading.specs.declared.open_object.OpenObject.{OpenObject}
+use Rattle.reading.specs.declared.walk.Walk.{Walk}
+use Rattle.reading.specs.Offers.{Silent, Came, Advanced, Resumes, saved_of, Over}
+use Rattle.reading.specs.Pushes.{Leaves}
+use Rattle.reading.specs.Walks.{Answer, no_object, objects_of, rest, rest_from, walk_ahead, Sound, from_of, EnclosedOnce, EnclosedWalk, Within, Handed, Stepped}
+use Rattle.reading.proofs.Enclosing.{begun_from, not_begun_from, stepped_sound}
+use Rattle.reading.proofs.Stepping.{ahead_of, begun_ahead, not_begun_ahead, innermost, none_open, none_sound, sound_near, sound_all, sound_from}
+
+-- bits that agree in a stretch agree in a shorter one
+less_alike : {B C : List Bool} {p q r s : ℕ} → p ≤ r → s ≤ q → Alike B C p q → Alike B C r s
+less_alike h k a = record { long = a.long; agree = λ j l m. a.agree j (omega arith) (omega arith) }
+
+module _ (d : Description) (bits : List Bool) where
+  pub silent_none : (v : Walk) → Sound d v → EnclosedWalk (length bits) v → Silent d bits v v
+  silent_none v s e =
+      record {
+        same = λ B l. refl;
+        sound = s;
+        enclosed = e;
+        forward = omega arith;
+        still = λ b. record { started = b; depth = refl; kept = λ j l. refl };
+      }
+
+  module _ (v w x : Walk) (s : Silent d bits v w) where
+    pub silent_more : Stepped d bits w None x → Leaves w None x → Silent d bits v x
+    unfolding head
+    silent_more step leaves =
+        let b : Within (length bits) (from_of w) x = step.bound s.enclosed in
+        let at : from_of x ≡ x.place = begun_from x b.begun in
+        let h = s.forward in
+        let k = b.ahead in
+        record {
+          same = λ B l.
+              s.same B (less_alike (omega arith) (omega arith) l) ∙ ap head (step.moved B (less_alike (omega arith) (omega arith) l)).same;
+          sound = stepped_sound d bits w None x step;
+          enclosed = subst (λ (y : Bool). EnclosedOnce y (length bits) (objects_of x) x.place) (sym b.begun) b.enclosed;
+          forward = omega arith;
+          still = λ st.
+              let a = s.still st in
+              let c = leaves a.started in
+              record { started = c.started; depth = c.depth ∙ a.depth; kept = λ j l. c.kept j (subst (λ n. j < min n 16 - 1) (sym a.depth) l) ∙ a.kept j l };
+        }
+
+    last_came : (a : Answer) → Stepped d bits w (Some a) x → Came d bits v a x
+    unfolding head
+    last_came (Ok (Some i)) step =
+        let h : Handed (length bits) (from_of w) i x = step.bound s.enclosed in
+        let f = s.forward in
+        let g = h.ahead in
+        let k = h.kept in
+        let m = h.most in
+        record {
+          next = λ B l.
+              s.same B (less_alike (omega arith) (omega arith) l) ∙ ap head (step.moved B (less_alike (omega arith) (omega arith) l)).same;
+          sound = stepped_sound d bits w (Some (Ok (Some i))) x step;
+          handed = record {
+            within = record { begun = h.within.begun; ahead = omega (arith, h.within.ahead); enclosed = h.within.enclosed };
+            ahead = omega arith;
+            kept = h.kept;
+            most = h.most;
+            end = h.end;
+          };
+          ends = λ st fits. step.ends st (λ j l n. fits.0 j (omega arith) n, fits.1);
+        }
+    last_came (Ok None) step = s.same bits alike_self ∙ ap head (step.moved bits refl).same
+    last_came (Err f) step = s.same bits alike_self ∙ ap head (step.moved bits refl).same
+
+    pub last_answer : (a : Answer) → Stepped d bits w (Some a) x → Leaves w (Some a) x → Advanced d bits v a x
+    last_answer a step leaves =
+        record {
+          came = last_came a step;
+          kept = λ st.
+              let b = s.still st in
+              λ j l. leaves b.started j (subst (λ n. j < min n 16 - 2) (sym b.depth) l) ∙ b.kept j (omega arith);
+        }
+
+  -- another item than what came next does not come next
+  pub declined : (v x : Walk) (a : Answer) (wanted : Item) → Came d bits v a x → a ≢ Ok (Some wanted) → (r : Run (Unit {0})) → head (walk_ahead d bits v) ≢ gives wanted r
+  declined v x (Ok (Some i)) wanted came other r e =
+      let both = sym (came.next bits alike_self) ∙ e in
+      let same : i ≡ wanted = cc in
+      other (ap (λ (y : Item). Ok (Some y)) same)
+  declined v x (Ok None) wanted came other r e = let both = sym came ∙ e in let z : ◌≡◌ {A = ℕ} 0 1 = cc in omega arith
+  declined v x (Err f) wanted came other r e = let both = sym came ∙ e in let z : ◌≡◌ {A = ℕ} 0 1 = cc in omega arith
+
+-- a stack of the same objects
+tops_same : {A : Type 0} (none : A) (xs ys : List A) (n : ℕ) → ((j : ℕ) → j < n → get_or xs j none ≡ get_or ys j none) → tops none xs n ≡ tops none ys n
+unfolding tops
+tops_same none xs ys zero h = refl
+tops_same none xs ys (suc n) h = ap₂ ◌∷◌ (h n (omega arith)) (tops_same none xs ys n (λ j l. h j (omega arith)))
+
+-- the two innermost are put back
+put_back : {A : Type 0} (none : A) (xs ys : List A) (n : ℕ) → n ≤ length xs → ((j : ℕ) → j < n - 2 → get_or xs j none ≡ get_or ys j none)
+    → tops none (set (set xs (n - 2) (get_or ys (n - 2) none)) (n - 1) (get_or ys (n - 1) none)) n ≡ tops none ys n
+put_back none xs ys n long kept = tops_same none _ ys n at
+  where
+    below : (j : ℕ) → j < n - 1 → get_or (set xs (n - 2) (get_or ys (n - 2) none)) j none ≡ get_or ys j none
+    below j l =
+        elim (dec_le (n - 2) j) [
+          | yes h ↦ (
+              let e : j ≡ n - 2 = omega arith in
+              subst (λ k. get_or (set xs k (get_or ys k none)) j none ≡ get_or ys j none) e (get_or-set_same xs j (get_or ys j none) none (omega arith)))
+          | no h ↦ (let o : j ≢ n - 2 = omega arith in get_or-set_other xs (n - 2) j (get_or ys (n - 2) none) none o ∙ kept j (omega arith))
+        ]
+
+    at : (j : ℕ) → j < n → get_or (set (set xs (n - 2) (get_or ys (n - 2) none)) (n - 1) (get_or ys (n - 1) none)) j none ≡ get_or ys j none
+    at j l =
+        let zs = set xs (n - 2) (get_or ys (n - 2) none) in
+        let k = length-set xs (n - 2) (get_or ys (n - 2) none) in
+        elim (dec_le (n - 1) j) [
+          | yes h ↦ (
+              let e : j ≡ n - 1 = omega arith in
+              subst (λ m. get_or (set zs m (get_or ys m none)) j none ≡ get_or ys j none) e (get_or-set_same zs j (get_or ys j none) none (omega arith)))
+          | no h ↦ (let o : j ≢ n - 1 = omega arith in get_or-set_other zs (n - 1) j (get_or ys (n - 1) none) none o ∙ below j (omega arith))
+        ]
+
+not_true : (b : Bool) → not b ≡ true → b ≡ false
+not_true true e = let z : ◌≡◌ {A = ℕ} 0 1 = cc in absurd (omega arith)
+not_true false e = refl
+
+not_not : (b : Bool) → not b ≡ false → b ≡ true
+not_not true e = refl
+not_not false e = let z : ◌≡◌ {A = ℕ} 0 1 = cc in absurd (omega arith)
+
+module _ (d : Description) (v : Walk) (s : Saved) (is : s ≡ saved_of v) (sound : Sound d v) where
+  -- a walk that had not begun
+  pub unstarted : (xs : List OpenObject) → not s.started ≡ true → Resumes d v (record { objects = xs; depth = 0; place = 0; started = false })
+  unstarted xs e =
+      let f : v.started ≡ false = sym (ap (λ (x : Saved). x.started) is) ∙ not_true s.started e in
+      record {
+        ahead = λ B. sym (not_begun_ahead d B v f);
+        sound = none_sound d _ refl refl;
+        from = sym (not_begun_from v f);
+        enclosed = λ L h. tt;
+      }
+
+  pub restored : (xs : List OpenObject) (m n : ℕ) → not s.started ≡ false → m ≡ min s.depth 16 - 2 → n ≡ min s.depth 16 - 1 → 16 ≤ length xs
+      → (v.started ≡ true → (j : ℕ) → j < min v.depth 16 - 2 → get_or xs j no_object ≡ get_or v.objects j no_object)
+      → Resumes d v (record { objects = set (set xs m s.outer) n s.inner; depth = s.depth; place = s.place; started = true })
+  unfolding objects_of
+  restored xs m n e em en long kept =
+      let st : v.started ≡ true = sym (ap (λ (x : Saved). x.started) is) ∙ not_not s.started e in
+      let w : Walk = record { objects = set (set xs m s.outer) n s.inner; depth = s.depth; place = s.place; started = true } in
+      let k = min v.depth 16 in
+      let place : w.place ≡ v.place = ap (λ (x : Saved). x.place) is in
+      let few : k ≤ length xs = omega arith in
+      let same : objects_of w ≡ objects_of v =
+      (λ t. tops no_object (set (set xs (em t) (is t).outer) (en t) (is t).inner) (min (is t).depth 16))
+      ∙ (λ t. tops no_object (set (set xs (min (is t).depth 16 - 2) (saved_of v).outer) (min (is t).depth 16 - 1) (saved_of v).inner) k)
+      ∙ put_back no_object xs v.objects k few (kept st) in
+      record {
+        ahead = λ B. ahead_of d B w (objects_of v) v.place refl same place ∙ sym (begun_ahead d B v st);
+        sound = sound_from d w (objects_of v) same (sound_all d v sound) (subst (λ n. n ≤ 2147483647) (sym place) (sound_near d v sound));
+        from = place ∙ sym (begun_from v st);
+        enclosed = λ L h.
+            subst (λ (X : Type 0). X) (sym (λ t. EnclosedOnce true L (same t) (place t)))
+            (subst (λ (y : Bool). EnclosedOnce y L (objects_of v) v.place) st h);
+      }
+
+-- a run that goes on after one that hands out something, or goes on, does not end at once
+module _ {A B : Type 0} (k : A → Run B) (u : B) where
+  bind_not : ((a : A) → head (k a) ≢ ends u) → (t : Run A) → head (bind t k) ≢ ends u
+  unfolding bind head
+  bind_not h (out i t) e = let z : ◌≡◌ {A = ℕ} 0 1 = cc in omega arith
+  bind_not h (pass t) e = bind_not h t e
+  bind_not h (stop f) e = let z : ◌≡◌ {A = ℕ} 0 1 = cc in omega arith
+  bind_not h (done a) e = h a e
+
+  attempt_not : {X : Type 0} (line p : ℕ) (c : Check X) (f : X → Run A) → ((x : X) → head (bind (f x) k) ≢ ends u) → head (bind (attempt line p c f) k) ≢ ends u
+  unfolding bind head attempt
+  attempt_not line p (Ok x) f h e = h x e
+  attempt_not line p (Err g) f h e = let z : ◌≡◌ {A = ℕ} 0 1 = cc in omega arith
+
+module _ (d : Description) (B : List Bool) where
+  object_not : {A : Type 0} (k : State → Run A) (u : A) (n line declared index : ℕ) (w : Window) (p : ℕ) → head (bind (object d B n line declared index w p) k) ≢ ends u
+  unfolding object opened bind head
+  object_not k u zero line declared index w p = λ e. let z : ◌≡◌ {A = ℕ} 0 1 = cc in omega arith
+  object_not k u (suc n) line declared index w p =
+      attempt_not k u line p (header B w (class_at d declared) (greatest d declared) p)
+      (λ h. attempt line p (ensure (not (eqb (object_class d declared h.id) 0) || not (eqb (greatest d declared) 0)) UnknownId)
+      (λ x. opened d B (object d B n) (object_class d declared h.id) (greatest d declared) line index h w))
+      (λ h.
+      attempt_not k u line p (ensure (not (eqb (object_class d declared h.id) 0) || not (eqb (greatest d declared) 0)) UnknownId)
+      (λ x. opened d B (object d B n) (object_class d declared h.id) (greatest d declared) line index h w)
+      (λ x e. let z : ◌≡◌ {A = ℕ} 0 1 = cc in omega arith))
+
+  reading_not : head (reading d B) ≢ ends tt
+  unfolding reading
+  reading_not = object_not _ tt 16 0 d.top 0 _ 0
+
+  open_not : (a : OpenObject) (os : List OpenObject) (p : ℕ) → head (rest d B (a ∷ os) p) ≢ ends tt
+  unfolding rest_from head
+  open_not a os p = bind_not _ tt (λ t e. let z : ◌≡◌ {A = ℕ} 0 1 = cc in omega arith) _
+
+pub over_by : (w : Walk) (b : Bool) → w.started ≡ true → eqb w.depth 0 ≡ b → Over w b
+over_by w true st e = let z : w.depth ≡ 0 = grind (arith, nat_tests) in (st, none_open w z)
+over_by w false st e = λ d B h.
+    let z : 0 < w.depth = grind (arith, nat_tests) in
+    let k : min w.depth 16 ≡ suc (min w.depth 16 - 1) = omega arith in
+    let ahead : walk_ahead d B w ≡ rest d B _ w.place = ahead_of d B w _ w.place st (innermost w (min w.depth 16 - 1) k) refl in
+    open_not d B _ _ w.place (ap head (sym ahead) ∙ h)
+
+pub over-not : (w : Walk) → w.started ≡ false → Over w w.started
+over-not w st = subst (Over w) (sym st) (λ d B h. reading_not d B (ap head (sym (not_begun_ahead d B w st)) ∙ h))
