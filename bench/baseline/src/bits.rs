@@ -1,6 +1,7 @@
 //! Bits in memory.
 
 use crate::item::{Item, Refusal};
+use crate::program::{Ids, Map};
 
 /// The most bytes that a source may have.
 const MOST_BYTES: usize = 268_435_455;
@@ -12,6 +13,22 @@ pub(crate) trait Input {
 
     /// The `width` bits from `place` on, at most 32, all of them within the length.
     fn get(&self, place: u32, width: u32) -> u32;
+
+    /// The bits of an id, which may select one of these classes.
+    #[inline]
+    fn id(&self, place: u32, width: u32, _ids: &[Ids]) -> u32 {
+        self.get(place, width)
+    }
+
+    /// The bits of an index of a map.
+    #[inline]
+    fn index(&self, place: u32, map: &Map) -> u32 {
+        self.get(place, map.index_width)
+    }
+
+    /// Hears that the size bytes of an object are read next, and how many bits they and the object may have.
+    #[inline]
+    fn size_follows(&self, _place: u32, _greatest: u32, _room: u32) {}
 
     /// Whether the item is to be handed out. `unread` bits are passed over before it.
     fn accepts(&self, _item: &Item, _unread: u32) -> bool {

@@ -290,7 +290,7 @@ impl<'d> Machine<'d> {
         let after = self
             .after(self.place, width)
             .map_err(|cause| self.fault(cause, line))?;
-        let index = input.get(self.place, width) as u16;
+        let index = input.index(self.place, map) as u16;
         let output = map.output(index).ok_or_else(|| self.fault(15, line))?;
         let item = Item {
             kind: Kind::Value,
@@ -338,7 +338,7 @@ impl<'d> Machine<'d> {
         let mut class = declared.class;
         if declared.id_width > 0 {
             place = self.after(begin, declared.id_width).map_err(fault)?;
-            id = input.get(begin, declared.id_width) as u16;
+            id = input.id(begin, declared.id_width, &declared.ids) as u16;
             let known = declared
                 .ids
                 .iter()
@@ -352,6 +352,8 @@ impl<'d> Machine<'d> {
         let mut size = 0;
         let mut window = self.frame.window;
         if is_expandable {
+            let room = self.frame.window.end - place;
+            input.size_follows(place, declared.greatest_size, room);
             (size, place) = self.size(input, place).map_err(fault)?;
             if size > declared.greatest_size {
                 return Err(fault(17));

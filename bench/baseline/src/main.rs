@@ -1,9 +1,8 @@
 //! The program `baseline`: see README.md for its subcommands.
 
-mod repeat;
 mod vectors;
 
-use baseline::{Description, Fault, Item, Reader, Source, Writer};
+use baseline::{repeated, Description, Fault, Item, Reader, Source, Writer};
 use std::fmt::Write as _;
 use std::process::ExitCode;
 use std::{env, fs};
@@ -26,10 +25,8 @@ fn main() -> ExitCode {
         ["digest", description, stream] => digest(description, stream),
         ["count", description, stream] => count(description, stream),
         ["pack", description, items, length, stream] => pack(description, items, length, stream),
-        ["repeat", count, description, stream] => repeat::write(count, description, stream, false),
-        ["repeat", count, description, stream, "known"] => {
-            repeat::write(count, description, stream, true)
-        }
+        ["repeat", count, description, stream] => repeat(count, description, stream, false),
+        ["repeat", count, description, stream, "known"] => repeat(count, description, stream, true),
         ["vectors", folder] => vectors::run(folder),
         _ => Err(USAGE.to_string()),
     };
@@ -214,5 +211,16 @@ fn pack(description: &str, items: &str, length: &str, stream: &str) -> Outcome {
     }
     write_file(stream, &buffer)?;
     println!("ok");
+    Ok(true)
+}
+
+/// Writes a stream of so many objects and a description for it.
+fn repeat(count: &str, description: &str, stream: &str, only_known: bool) -> Outcome {
+    let count: usize = count
+        .parse()
+        .map_err(|_| format!("no number of objects: {count}"))?;
+    let made = repeated(count, only_known).ok_or("too many objects")?;
+    write_file(description, &made.description)?;
+    write_file(stream, &made.stream)?;
     Ok(true)
 }

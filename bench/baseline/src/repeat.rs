@@ -1,35 +1,41 @@
 //! A long stream of the sample's objects, and a description with room for them.
 
-use crate::{write_file, Outcome};
-
 /// How many objects one use without a count holds at most.
 const MOST: usize = 65_535;
+
+/// How many uses there are at most: 512 lines but for three.
+const MOST_USES: usize = 509;
 
 /// The sample's objects with their ids and sizes: one of class 3, one of an unknown id.
 const KNOWN: &[u8] = &[0x01, 0x01, 0xA3];
 const UNKNOWN: &[u8] = &[0x09, 0x02, 0xFF, 0xFF];
 
-/// Writes a stream of so many objects, the sample's two in turn or only the known one, and a
-/// description for it.
-pub fn write(count: &str, description: &str, stream: &str, only_known: bool) -> Outcome {
-    let count: usize = count
-        .parse()
-        .map_err(|_| format!("no number of objects: {count}"))?;
+/// A description and a stream for it.
+pub struct Repeated {
+    pub description: Vec<u8>,
+    pub stream: Vec<u8>,
+}
+
+/// A stream of so many objects, the sample's two in turn or only the known one, and a description for it. There is none
+/// where there are too many objects.
+pub fn repeated(count: usize, only_known: bool) -> Option<Repeated> {
     let uses = count.div_ceil(MOST).max(1);
-    if uses > 256 {
-        return Err("too many objects".to_string());
+    if uses > MOST_USES {
+        return None;
     }
-    write_file(description, &describe(uses as u16))?;
-    let mut bytes = vec![0x07];
+    let mut stream = vec![0x07];
     for i in 0..count {
-        bytes.extend(if i % 2 == 0 || only_known {
+        stream.extend(if i % 2 == 0 || only_known {
             KNOWN
         } else {
             UNKNOWN
         });
     }
-    write_file(stream, &bytes)?;
-    Ok(true)
+    let description = describe(uses as u16);
+    Some(Repeated {
+        description,
+        stream,
+    })
 }
 
 /// The sample description, but for its use line: there are `uses` of them, one after the other,
@@ -54,11 +60,11 @@ fn describe(uses: u16) -> Vec<u8> {
 #[cfg(test)]
 mod tests {
     use super::*;
-    use baseline::Description;
+    use crate::Description;
 
     #[test]
     fn the_description_is_accepted() {
-        for uses in [1, 2, 256] {
+        for uses in [1, 2, MOST_USES as u16] {
             assert!(Description::new(&describe(uses)).is_ok());
         }
     }

@@ -73,7 +73,7 @@ fn bytes_of(hex: &str) -> Result<Vec<u8>, String> {
     if hex == "-" {
         return Ok(Vec::new());
     }
-    if hex.len() % 2 != 0 || !hex.is_ascii() {
+    if !hex.len().is_multiple_of(2) || !hex.is_ascii() {
         return Err(format!("no bytes: {hex}"));
     }
     (0..hex.len())

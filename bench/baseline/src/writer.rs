@@ -112,6 +112,8 @@ impl<'d> Writer<'d> {
     }
 
     /// Ends the stream and makes the bits left 0. Refuses with 44 or 45 and gives the writing back.
+    // A refused writer goes back to where it came from, so a box would gain nothing.
+    #[allow(clippy::result_large_err)]
     pub fn finish(self, buffer: &mut [u8]) -> Result<(), (Self, Refusal)> {
         if let Err(refusal) = self.room(buffer) {
             return Err((self, refusal));

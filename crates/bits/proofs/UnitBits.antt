@@ -1,10 +1,10 @@
 -- The bits of units: the number that they write, and a part of them.
-use Rattle.std.proofs.Common.{◌≡◌, ℕ, ◌+◌, ◌-◌, ◌*◌, ◌/◌, ◌%◌, ◌^◌, ◌<◌, ◌≤◌, List, [], ◌∷◌, ◌++◌, length, take, drop, bit_or, sym, ap, ◌∙◌, mod-eq_of_lt, add-mul, one-mul, mul_comm, Ok, arith}
+use Rattle.std.proofs.Common.{◌≡◌, ℕ, zero, suc, ◌+◌, ◌-◌, ◌*◌, ◌/◌, ◌%◌, ◌^◌, ◌<◌, ◌≤◌, List, [], ◌∷◌, ◌++◌, length, take, drop, bit_or, sym, ap, ◌∙◌, mod-eq_of_lt, add-mul, suc-mul, zero-mul, one-mul, mul_comm, subst, Ok, arith}
 use Rattle.std.proofs.lemmas.Nat.{div-add-mod', mod_below, shl_whole, or_shifted}
 use Rattle.std.proofs.Math.Nat.{div-le_of_le-mul}
 use Rattle.std.proofs.lemmas.Grind.{flat_map-append}
-use Rattle.std.proofs.lemmas.List.{append-nil, length-append, take-map, drop-map}
-use Rattle.bits.specs.Bits.{number, part, length-bits_of}
+use Rattle.std.proofs.lemmas.List.{append-nil, length-append, length-take, length-drop, take-append-drop, take-map, drop-map}
+use Rattle.bits.specs.Bits.{number, part, bits_of, length-bits_of}
 use Rattle.bits.specs.Get.{widest, place_answer, get_answer}
 use Rattle.bits.proofs.Gets.{placed, got}
 use Rattle.bits.specs.Units.{IsWidth, units_bits, bits_of_units, length-units_bits}
@@ -17,6 +17,32 @@ gather_push w value xs x whole few fits is =
     let e = is (omega arith) in
     let lt : whole < 2 ^ (length xs * w) = rw (e, ← length-units_bits w value xs) (number_lt (units_bits w value xs)) in
     rw (shl_whole whole (length xs * w) w 64 lt fill, or_shifted whole w (value x) fits, flat_map-append, append-nil, number_append, length-bits_of, number-bits_of, mod-eq_of_lt fits, e)
+
+-- units that are left after some of those that fill at most 64 bits fill fewer
+left_narrow : (w first left : ℕ) → 0 < w → 0 < first → (first + left) * w ≤ 64 → left * w < 64
+left_narrow w zero left wide some few = absurd (omega arith)
+left_narrow w (suc f) left wide some few = omega (arith, suc-mul f w, add-mul (suc f) left w)
+
+pub half_narrow : (w n : ℕ) → IsWidth w → n * w ≤ 64 → (n - n / 2) * w < 64
+half_narrow w zero h few = omega (arith, zero-mul w)
+half_narrow w (suc zero) h few = rw one-mul (omega arith)
+half_narrow w (suc (suc m)) h few =
+    let n = suc (suc m) in
+    let all : n / 2 + (n - n / 2) ≡ n = omega arith in
+    left_narrow w (n / 2) (n - n / 2) h.0 (omega arith) (subst (λ t. t * w ≤ 64) (sym all) few)
+
+-- a shift and an or make the number of the first k units and that of the rest to the number of all
+pub gather_halves : {U : Type 0} (w : ℕ) (value : U → ℕ) (xs : List U) (k high low : ℕ) → k ≤ length xs → length xs * w ≤ 64 → high ≡ number (units_bits w value (take k xs)) → low ≡ number (units_bits w value (drop k xs)) → bit_or ((high * 2 ^ (length (drop k xs) * w)) % 2 ^ 64) low ≡ number (units_bits w value xs)
+gather_halves w value xs k high low h few i j =
+    let a = units_bits w value (take k xs) in
+    let b = units_bits w value (drop k xs) in
+    let whole : a ++ b ≡ units_bits w value xs = sym (flat_map-append (λ x. bits_of w (value x)) (take k xs) (drop k xs)) ∙ ap (units_bits w value) (take-append-drop k xs) in
+    let count : length (take k xs) + length (drop k xs) ≡ length xs = rw (length-take, length-drop) (omega arith) in
+    let fill : length (take k xs) * w + length (drop k xs) * w ≤ 64 = omega (arith, add-mul (length (take k xs)) (length (drop k xs)) w, ap (λ t. t * w) count) in
+    let top : high < 2 ^ (length (take k xs) * w) = rw (i, ← length-units_bits w value (take k xs)) (number_lt a) in
+    let less : low < 2 ^ (length (drop k xs) * w) = rw (j, ← length-units_bits w value (drop k xs)) (number_lt b) in
+    rw (shl_whole high (length (take k xs) * w) (length (drop k xs) * w) 64 top fill, or_shifted high (length (drop k xs) * w) low less, i, j, ← length-units_bits w value (drop k xs))
+    (sym (number_append a b) ∙ ap number whole)
 
 -- the bits of `count` units from unit i on
 part_units : {U : Type 0} (w : ℕ) (value : U → ℕ) (xs : List U) (i count : ℕ) → units_bits w value (take count (drop i xs)) ≡ part (units_bits w value xs) (i * w) (count * w)

@@ -80,6 +80,7 @@ impl<U: Unit> Source for Units<'_, U> {
         self.units.len() as u32 * U::BITS
     }
 
+    #[inline(always)]
     fn get(&self, p: u32, n: u32) -> Result<u64, Refusal> {
         check_place(u64::from(self.length()), p, n)?;
         let rest = &self.units[(p / U::BITS) as usize..];
@@ -87,11 +88,12 @@ impl<U: Unit> Source for Units<'_, U> {
         if rest.len() >= reach {
             return Ok(read(&rest[..reach], p % U::BITS, n));
         }
-        Ok(read(rest, p % U::BITS, n))
+        Ok(read_last(rest, p % U::BITS, n))
     }
 }
 
 // The n bits from place p of units that have at most 64 bits, as a number.
+#[inline(always)]
 fn read<U: Unit>(units: &[U], p: u32, n: u32) -> u64
     requires few { length units.now * U.BITS ≤ 64 }
     requires inside { p + n ≤ length units.now * U.BITS }
@@ -102,8 +104,33 @@ fn read<U: Unit>(units: &[U], p: u32, n: u32) -> u64
     field(gather(units), past, n)
 }
 
-// The number that units write that have at most 64 bits.
+// The same of the last units, of which there are fewer. A function of its own, so that a compiler does not make one of the
+// two ways and lose that the first has a known number of units.
+#[inline(never)]
+fn read_last<U: Unit>(units: &[U], p: u32, n: u32) -> u64
+    requires few { length units.now * U.BITS ≤ 64 }
+    requires inside { p + n ≤ length units.now * U.BITS }
+    requires narrow { n < 64 }
+    ensures { result ≡ number (part (units_bits U.BITS U.value units.now) p n) }
+{
+    read(units, p, n)
+}
+
+// The number that units write that have at most 64 bits. Half by half: a compiler turns eight bytes into one load where
+// no number is made of more than a few steps.
+#[inline(always)]
 fn gather<U: Unit>(units: &[U]) -> u64
+    requires { length units.now * U.BITS ≤ 64 }
+    ensures { result ≡ number (units_bits U.BITS U.value units.now) }
+{
+    let half = units.len() / 2;
+    let low = &units[half..];
+    gather_half(&units[..half]) << (low.len() as u32 * U::BITS) | gather_half(low)
+}
+
+// The same, unit by unit.
+#[inline(always)]
+fn gather_half<U: Unit>(units: &[U]) -> u64
     requires { length units.now * U.BITS ≤ 64 }
     ensures { result ≡ number (units_bits U.BITS U.value units.now) }
 {

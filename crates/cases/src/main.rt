@@ -7,6 +7,7 @@ mod lines;
 mod makes;
 mod operators;
 mod outcome;
+mod pieces;
 mod readings;
 mod run;
 mod stream;
@@ -27,41 +28,91 @@ fn main(rt: HostRuntime) -> anyhow::Result<()> {
 }
 
 fn run_all(rt: &HostRuntime) -> anyhow::Result<()> {
+    run_descriptions(rt)?;
+    run_growth(rt)?;
     let heap = rt.alloc();
-    // answers that two independent models of the rules agree on
-    run(rt, "check.txt", "", LINES, |case| check_agrees(heap, case))?;
-    // each table at its largest count, and with one record more
-    run(rt, "limits.txt", "", LINES, |case| check_agrees(heap, case))?;
-    // the value of one operator in each case
-    run(
-        rt,
-        "operators.txt",
-        ", by evaluation",
-        BLOCKS,
-        |case| value_agrees(heap, case),
-    )?;
-    // whether a newer description has grown from an older one
-    run(rt, "grown.txt", "", LINES, |case| grown_agrees(heap, case))?;
-    // and what is struck of the newer's items
-    run(
-        rt,
-        "grow.txt",
-        "",
-        BLOCKS,
-        |case| Ok(grown_agrees(heap, case)? && struck_agrees(heap, case)?),
-    )?;
     // writings, call by call
     run(
         rt,
         "write.txt",
         "",
         BLOCKS,
-        |case| written_agrees(heap, case),
+        |case| Ok(Some(written_agrees(heap, case)?)),
     )?;
     for make in Make::ALL {
         for call in Call::ALL {
             read_all(rt, make, call)?;
         }
+    }
+    read_by_pieces(rt)
+}
+
+// Runs the cases of a description alone: is it accepted, and what are its nodes' values?
+fn run_descriptions(rt: &HostRuntime) -> anyhow::Result<()> {
+    let heap = rt.alloc();
+    // answers that two independent models of the rules agree on; and each table at its largest count, and with one
+    // record more
+    for file in ["check.txt", "limits.txt"] {
+        run(
+            rt,
+            file,
+            "",
+            LINES,
+            |case| Ok(Some(check_agrees(heap, case)?)),
+        )?;
+    }
+    // the value of one operator in each case
+    run(
+        rt,
+        "operators.txt",
+        ", by evaluation",
+        BLOCKS,
+        |case| Ok(Some(value_agrees(heap, case)?)),
+    )
+}
+
+// Runs the cases of an older and a newer description.
+fn run_growth(rt: &HostRuntime) -> anyhow::Result<()> {
+    let heap = rt.alloc();
+    // whether the newer has grown from the older
+    run(
+        rt,
+        "grown.txt",
+        "",
+        LINES,
+        |case| Ok(Some(grown_agrees(heap, case)?)),
+    )?;
+    // and what is struck of the newer's items
+    run(
+        rt,
+        "grow.txt",
+        "",
+        BLOCKS,
+        |case| Ok(Some(grown_agrees(heap, case)? && struck_agrees(heap, case)?)),
+    )
+}
+
+// Runs the cases of readings of whole bytes, piece by piece.
+fn read_by_pieces(rt: &HostRuntime) -> anyhow::Result<()> {
+    let heap = rt.alloc();
+    let how = ", piece by piece";
+    for file in ["read.txt", "operators.txt"] {
+        run(
+            rt,
+            file,
+            how,
+            BLOCKS,
+            |case| ONLY.agrees_by_pieces(heap, case),
+        )?;
+    }
+    for told in [NEWER, OLDER] {
+        run(
+            rt,
+            "grow.txt",
+            how,
+            BLOCKS,
+            |case| told.agrees_by_pieces(heap, case),
+        )?;
     }
     Ok(())
 }
@@ -77,7 +128,7 @@ fn read_all(rt: &HostRuntime, make: Make, call: Call) -> anyhow::Result<()> {
         "read.txt",
         how,
         BLOCKS,
-        |case| ONLY.agrees(heap, case, make, call),
+        |case| Ok(Some(ONLY.agrees(heap, case, make, call)?)),
     )?;
     // and of those of one operator
     run(
@@ -85,7 +136,7 @@ fn read_all(rt: &HostRuntime, make: Make, call: Call) -> anyhow::Result<()> {
         "operators.txt",
         how,
         BLOCKS,
-        |case| ONLY.agrees(heap, case, make, call),
+        |case| Ok(Some(ONLY.agrees(heap, case, make, call)?)),
     )?;
     // readings by an older and a newer description
     run(
@@ -93,6 +144,8 @@ fn read_all(rt: &HostRuntime, make: Make, call: Call) -> anyhow::Result<()> {
         "grow.txt",
         how,
         BLOCKS,
-        |case| Ok(NEWER.agrees(heap, case, make, call)? && OLDER.agrees(heap, case, make, call)?),
+        |case| Ok(Some(
+            NEWER.agrees(heap, case, make, call)? && OLDER.agrees(heap, case, make, call)?,
+        )),
     )
 }

@@ -26,8 +26,8 @@ const ROOM: usize = 3;
 // The items of a reading in order, and its fault where it does not come to its end.
 #[derive(Drop)]
 pub(crate) struct Outcome {
-    items: Vec<Item>,
-    fault: Option<ReadingFault>,
+    pub(crate) items: Vec<Item>,
+    pub(crate) fault: Option<ReadingFault>,
 }
 
 impl Outcome {

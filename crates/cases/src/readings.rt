@@ -2,6 +2,7 @@
 use crate::lines::{description_after, lines_after};
 use crate::makes::{Make, Task};
 use crate::outcome::Call;
+use crate::pieces::by_pieces;
 use crate::stream::Stream;
 use std::alloc::Global;
 
@@ -45,5 +46,18 @@ impl Told {
         };
         let outcome = task.outcome(heap, make)?;
         Ok(outcome.is_written(heap, lines_after(case, self.heading))?)
+    }
+
+    // Whether a reading of the stream piece by piece gives what the case says; none where the stream is not of whole
+    // bytes.
+    pub(crate) fn agrees_by_pieces(self, heap: Global, case: &str) -> anyhow::Result<Option<bool>> {
+        let stream = Stream::of(heap, case)?;
+        if stream.length % 8 != 0 {
+            return Ok(None);
+        }
+        let description = description_after(heap, case, self.name)?;
+        let outcome = by_pieces(heap, &description, stream.bytes.as_slice())?;
+        let written = outcome.is_written(heap, lines_after(case, self.heading))?;
+        Ok(Some(written))
     }
 }

@@ -13,36 +13,9 @@ use Rattle.reading.specs.Walks.{Answer}
 use Rattle.reading.specs.Calls.{given}
 use Rattle.reading.specs.Fills.{first_items, ahead_after}
 use Rattle.reading.specs.Histories.{History, opened, next, fill, position, CalledOn, ends, stops, tells, HandsOut}
+use Rattle.reading.proofs.Tellings.{told_items, told_outcome, none_left, fault_left, first_answered, end_answered}
 use Rattle.reading.specs.Positions.{position_after, latest}
 use Rattle.reading.specs.Reads.{ahead, last_of, description_of, bits_of_source, skipped, Told}
-
--- silent steps hand out nothing
-skip_items : (t : Run (Unit {0})) → items t ≡ items (skipped t)
-unfolding items skipped
-skip_items (out i t) = refl
-skip_items (pass t) = skip_items t
-skip_items (stop f) = refl
-skip_items (done u) = refl
-
-skip_outcome : (t : Run (Unit {0})) → outcome t ≡ outcome (skipped t)
-unfolding outcome skipped
-skip_outcome (out i t) = refl
-skip_outcome (pass t) = skip_outcome t
-skip_outcome (stop f) = refl
-skip_outcome (done u) = refl
-
--- one call of `next`
-told_items : (t : Run (Unit {0})) (a : Answer) (u : Run (Unit {0})) → Told t a u → items t ≡ given a ++ items u
-unfolding items
-told_items t (Ok (Some i)) u e = skip_items t ∙ ap items e
-told_items t (Ok None) u e = skip_items t ∙ ap items e.0 ∙ sym (ap items e.1)
-told_items t (Err f) u e = skip_items t ∙ ap items e.0 ∙ sym (ap items e.1)
-
-told_outcome : (t : Run (Unit {0})) (a : Answer) (u : Run (Unit {0})) → Told t a u → outcome t ≡ outcome u
-unfolding outcome
-told_outcome t (Ok (Some i)) u e = skip_outcome t ∙ ap outcome e
-told_outcome t (Ok None) u e = skip_outcome t ∙ ap outcome e.0 ∙ sym (ap outcome e.1)
-told_outcome t (Err f) u e = skip_outcome t ∙ ap outcome e.0 ∙ sym (ap outcome e.1)
 
 -- one call of `fill`
 filled_items : (n : ℕ) (t : Run (Unit {0})) → items t ≡ first_items n t ++ items (ahead_after n t)
@@ -60,26 +33,6 @@ filled_outcome (suc n) (out i t) = filled_outcome n t
 filled_outcome (suc n) (pass t) = filled_outcome (suc n) t
 filled_outcome (suc n) (stop f) = refl
 filled_outcome (suc n) (done u) = refl
-
--- at the end or a fault nothing is left
-none_left : (t : Run (Unit {0})) (u : Run (Unit {0})) → Told t (Ok None) u → (items t ≡ []) × (outcome t ≡ ended)
-unfolding items outcome
-none_left t u e = (skip_items t ∙ ap items e.0, skip_outcome t ∙ ap outcome e.0)
-
-fault_left : (f : ReadingFault) (t : Run (Unit {0})) (u : Run (Unit {0})) → Told t (Err f) u → (items t ≡ []) × (outcome t ≡ refused f)
-unfolding items outcome
-fault_left f t u e = (skip_items t ∙ ap items e.0, skip_outcome t ∙ ap outcome e.0)
-
--- while an item is left, it is the answer
-first_answered : (t : Run (Unit {0})) (a : Answer) (u : Run (Unit {0})) (i : Item) (left : List Item) → items t ≡ i ∷ left → Told t a u → a ≡ Ok (Some i)
-first_answered t (Ok (Some j)) u i left e h = let q = told_items t (Ok (Some j)) u h in cc
-first_answered t (Ok None) u i left e h = let q = (none_left t u h).0 in cc
-first_answered t (Err f) u i left e h = let q = (fault_left f t u h).0 in cc
-
-end_answered : (t : Run (Unit {0})) (a : Answer) (u : Run (Unit {0})) → items t ≡ [] → Told t a u → a ≡ tells (outcome t)
-end_answered t (Ok (Some j)) u e h = let q = told_items t (Ok (Some j)) u h in cc
-end_answered t (Ok None) u e h = sym (ap tells (none_left t u h).1)
-end_answered t (Err f) u e h = sym (ap tells (fault_left f t u h).1)
 
 latest_append : (last : Option Item) (is js : List Item) → latest last (is ++ js) ≡ latest (latest last is) js
 latest_append last [] js = refl

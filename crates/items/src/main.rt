@@ -1,13 +1,15 @@
 // items: reads a stream by a description, and prints its items.
 #![tactic(auto)]
 
+mod pieces;
+
+use crate::pieces::Pieces;
 use anyhow::anyhow;
-use bits::bytes::Bytes;
 use checked::checked::Checked;
 use programs::{refuse, run};
-use reading::state::Reading;
 use std::process::ExitCode;
-use std::{env, fs};
+use std::{env, fs, io};
+use streaming::state::Streaming;
 
 const HELP: &str = "usage: items [DESCRIPTION STREAM]
 
@@ -57,11 +59,11 @@ fn named_files(rt: &HostRuntime) -> anyhow::Result<Option<Files>> {
     }))
 }
 
-// The bytes of a file; where it can't be read, that is said. Each program has its own: what is public has a contract,
+// What a file gives; where it can't be read, that is said. Each program has its own: what is public has a contract,
 // and none can speak of what a file holds.
-fn bytes_of(rt: &HostRuntime, name: &str) -> anyhow::Result<Vec<u8>> {
-    match fs::read(rt, name) {
-        Ok(bytes) => Ok(bytes),
+fn read_or_say<T: Drop>(rt: &HostRuntime, name: &str, read: io::Result<T>) -> anyhow::Result<T> {
+    match read {
+        Ok(what) => Ok(what),
         Err(error) => {
             eprintln!(rt; "items: {name}: {error}")?;
             Err(anyhow!("unreadable"))
@@ -71,28 +73,36 @@ fn bytes_of(rt: &HostRuntime, name: &str) -> anyhow::Result<Vec<u8>> {
 
 // Reads the stream by the description, and prints what comes of it.
 fn items(rt: &HostRuntime, files: &Files) -> anyhow::Result<()> {
-    let bytes = bytes_of(rt, files.description.as_str())?;
+    let name = files.description.as_str();
+    let bytes = read_or_say(rt, name, fs::read(rt, name))?;
     let checked = match Checked::load(rt.alloc(), bytes.as_slice()) {
         Ok(checked) => checked,
         Err(fault) => return refuse(rt, &fault, &fault.cause),
     };
-    let bits = bytes_of(rt, files.stream.as_str())?;
-    match Bytes::new(bits.as_slice()) {
-        Ok(source) => print_items(rt, Reading::open(&checked, source)),
+    let name = files.stream.as_str();
+    let (pieces, length) = read_or_say(rt, name, Pieces::open(rt, name))?;
+    match Streaming::open(&checked, length) {
+        Ok(reading) => print_items(rt, name, reading, pieces),
         Err(refusal) => refuse(rt, &refusal.number(), &refusal),
     }
 }
 
 // Prints the items of a reading, and how it ends.
-fn print_items(rt: &HostRuntime, mut reading: Reading<Bytes>) -> anyhow::Result<()> {
+fn print_items(
+    rt: &HostRuntime,
+    name: &str,
+    mut reading: Streaming,
+    mut pieces: Pieces,
+) -> anyhow::Result<()> {
     for _ in 0..u64::MAX {
-        match reading.next() {
-            Ok(Some(item)) => println!(rt; "{item}")?,
-            Ok(None) => {
+        match reading.next(pieces.first(), pieces.bytes()) {
+            None => read_or_say(rt, name, pieces.go_to(reading.wanted()))?,
+            Some(Ok(Some(item))) => println!(rt; "{item}")?,
+            Some(Ok(None)) => {
                 println!(rt; "end")?;
                 return Ok(());
             }
-            Err(fault) => return refuse(rt, &fault, &fault.cause),
+            Some(Err(fault)) => return refuse(rt, &fault, &fault.cause),
         }
     }
     Err(anyhow!("more items than a number can count"))

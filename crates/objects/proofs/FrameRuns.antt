@@ -27,11 +27,11 @@ use Rattle.objects.proofs.Blocks.{following, while_code}
 -- the same step from what lies ahead in other words
 pub moved_from : (d : Description) (bits : List Bool) (o : Object) {from to : Objects → Run State} (p : ℕ) (r : Result Move ReadingFault) (c : Inner)
     → ((obj : Objects) → from obj ≡ to obj) → Moved d bits o to p r c → Moved d bits o from p r c
-moved_from d bits o p (Ok (Quiet q)) c e m = record { same = λ obj. e obj ∙ m.same obj; fit = m.fit; near = m.near }
-moved_from d bits o p (Ok (Give i q)) c e m = record { same = λ obj. e obj ∙ m.same obj; kind = m.kind; ends = m.ends; fit = m.fit; near = m.near }
-moved_from d bits o p (Err f) c e m = record { same = λ obj. e obj ∙ m.same obj; fit = m.fit }
-moved_from d bits o p (Ok (Begin line u index)) c e m = record { same = λ obj. e obj ∙ m.same obj; fit = m.fit; uses = m.uses }
-moved_from d bits o p (Ok Leave) c e m = record { same = λ obj. e obj ∙ m.same obj; fit = m.fit }
+moved_from d bits o p (Ok (Quiet q)) c e m = record { before = m.before; same = λ obj. e obj ∙ m.same obj; fit = m.fit; near = m.near }
+moved_from d bits o p (Ok (Give i q)) c e m = record { before = m.before; same = λ obj. e obj ∙ m.same obj; kind = m.kind; ends = m.ends; fit = m.fit; near = m.near }
+moved_from d bits o p (Err f) c e m = record { before = m.before; same = λ obj. e obj ∙ m.same obj; fit = m.fit }
+moved_from d bits o p (Ok (Begin line u index)) c e m = record { before = m.before; same = λ obj. e obj ∙ m.same obj; fit = m.fit; uses = m.uses }
+moved_from d bits o p (Ok Leave) c e m = record { before = m.before; same = λ obj. e obj ∙ m.same obj; fit = m.fit }
 
 -- a number that is not used up
 one_less : (n : ℕ) → 0 < n → n ≡ suc (n - 1)

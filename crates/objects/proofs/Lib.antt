@@ -10,3 +10,4 @@ pub mod Sames
 pub mod Tries
 pub mod Alikes
 pub mod Owns
+pub mod Passing

@@ -7,14 +7,14 @@ use Rattle.rules.specs.declared.steps.Got.{Got}
 use Rattle.records.specs.declared.statements.ReadLine.{ReadLine}
 use Rattle.records.specs.declared.statements.UseLine.{UseLine}
 use Rattle.rules.specs.Trace.{out, pass, stop, bind, bind_assoc}
-use Rattle.rules.specs.Checks.{attempt, fault}
+use Rattle.rules.specs.Checks.{Check, attempt, fault}
 use Rattle.rules.specs.Lookups.{map_output}
 use Rattle.rules.specs.Values.{is_zero}
-use Rattle.rules.specs.Steps.{natural, mapped}
+use Rattle.rules.specs.Steps.{natural, element, mapped}
 use Rattle.rules.specs.Code.{Code, finish, read, assign, map_read, use_of, code}
 use Rattle.rules.specs.Reading.{Object, Objects, valued, counted, elements, objects, objects_to_end, used, run, write, value_item}
 use Rattle.objects.specs.declared.frame.Frame.{Frame}
-use Rattle.objects.specs.declared.frame.Frame.TheVariants.{Lines, Elements, Counted, Uncounted}
+use Rattle.objects.specs.declared.frame.Frame.TheVariants.{Lines, After, Elements, Counted, Uncounted}
 use Rattle.objects.specs.Ahead.{Inner, onto, with_names, state, frame_run, content_run, inner_run, code_run, height, wants, Reads, Uses, Fit, Room}
 use Rattle.objects.proofs.Blocks.{following, if_code}
 
@@ -45,8 +45,37 @@ module _ (d : Description) (bits : List Bool) (o : Object) (c : Inner) (p : ℕ)
     unfolding height
     assign_room r = lines_fit d line after c.frames (record { high = r.high; fit = r.fit })
 
+  -- one value is read
+  module _ (line after : ℕ) (l : ReadLine) (one : l.count ≡ 0) where
+    one_counted : (k : ℕ) → k ≡ 0 → counted d bits o (state p c) k ≡ Ok 1
+    one_counted k e = rw e refl
+
+    abbrev only_element : Check Got
+    only_element =
+        element bits o.window l (valued d bits o (state p c) l.width) (valued d bits o (state p c) l.lowest) (valued d bits o (state p c) l.highest) p
+
+    pub one_fails : (f : Failure) → Err f ≡ only_element → (obj : Objects)
+        → code_run d bits o (read line l (following d line after)) c p obj ≡ pass (stop (fault f.cause line f.node p))
+    unfolding run bind attempt elements
+    one_fails f e obj = rw (one_counted l.count one, ← e) refl
+
+    pub one_run : (g : Got) → Ok g ≡ only_element → (obj : Objects)
+        → code_run d bits o (read line l (following d line after)) c p obj
+        ≡ pass (out (value_item o line 0 g) (inner_run d bits o (onto (After (line + 1) after) (with_names (write l.name g.value c.names) c)) g.after obj))
+    unfolding run bind attempt elements content_run frame_run
+    one_run g e obj = rw (one_counted l.count one, ← e, add-one) refl
+
+    pub one_room : Room d (read line l (following d line after)) c.frames → Fit d (After (line + 1) after ∷ c.frames)
+    unfolding height Fit wants
+    one_room r = let h = r.high in rw add-one (omega arith, tt, r.fit)
+
   -- the elements of a read begin
   module _ (line after : ℕ) (l : ReadLine) where
+    -- where it has a count
+    pub some_counted : (k : ℕ) → 0 < k → counted d bits o (state p c) k ≡ natural 65535 (valued d bits o (state p c) k)
+    some_counted zero h = absurd (omega arith)
+    some_counted (suc k) h = refl
+
     pub read_fails : (f : Failure) → Err f ≡ counted d bits o (state p c) l.count → (obj : Objects)
         → code_run d bits o (read line l (following d line after)) c p obj ≡ stop (fault f.cause line f.node p)
     unfolding run bind attempt

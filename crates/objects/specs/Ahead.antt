@@ -9,13 +9,13 @@ use mathlib.Core.HLevel.{Unit-prop, ×₃_prop, Π_prop}
 use Rattle.std.proofs.Props.{props}
 use native.Mathlib.Bridge.{le_prop}
 use Rattle.table.specs.Description.{Description, class_at, extension_at, map_at, statement_at}
-use Rattle.rules.specs.Trace.{Run, bind}
+use Rattle.rules.specs.Trace.{Run, pass, bind}
 use Rattle.rules.specs.Values.{Names}
 use Rattle.rules.specs.Code.{Code, finish, read, assign, map_read, use_of, branch, while, code}
 use Rattle.rules.specs.Reading.{State, Object, Objects, valued, elements, objects, objects_to_end, rounds, run, extensions}
 use Rattle.values.specs.Names.{named_by}
 use Rattle.objects.specs.declared.frame.Frame.{Frame}
-use Rattle.objects.specs.declared.frame.Frame.TheVariants.{Lines, Rounds, Elements, Counted, Uncounted}
+use Rattle.objects.specs.declared.frame.Frame.TheVariants.{Lines, After, Rounds, Elements, Counted, Uncounted}
 use Rattle.objects.specs.declared.inside.Inside.{Inside}
 use Rattle.objects.specs.declared.inside.About.{About}
 use Rattle.objects.specs.Frames.{frames}
@@ -44,6 +44,7 @@ state p c = record { place = p; names = c.names }
 module _ (d : Description) (bits : List Bool) where
   unfoldable pub frame_run : Objects → Object → Frame → State → Run State
   frame_run obj o (Lines at count) s = run d bits obj o (code d.lines at count) s
+  frame_run obj o (After at count) s = pass (run d bits obj o (code d.lines at count) s)
   frame_run obj o (Rounds line node count left) s =
       rounds d bits (λ t. valued d bits o t node) (run d bits obj o (code d.lines (suc line) count)) line left s
   frame_run obj o (Elements line fields index total) s = elements d bits o line fields (total - index) index s
@@ -74,6 +75,7 @@ height (while line node most b k) = max (suc (suc (height b))) (height k)
 
 unfoldable pub wants : Description → Frame → ℕ
 wants d (Lines at count) = height (code d.lines at count)
+wants d (After at count) = height (code d.lines at count)
 wants d (Rounds line node count left) = suc (height (code d.lines (suc line) count))
 wants d (Elements line fields index total) = 0
 wants d (Counted line fields index total) = 0
@@ -89,6 +91,7 @@ Uses d line fields = statement_at d line ≡ Some (Use fields)
 -- a frame's fields are those of its line
 abbrev pub Lined : Description → Frame → Type 0
 Lined d (Lines at count) = Unit {0}
+Lined d (After at count) = Unit {0}
 Lined d (Rounds line node count left) = Unit {0}
 Lined d (Elements line fields index total) = Reads d line fields
 Lined d (Counted line fields index total) = Uses d line fields
@@ -128,6 +131,7 @@ statement_set = hlevel props
 
 lined_prop : (d : Description) (f : Frame) → IsProp (Lined d f)
 lined_prop d (Lines at count) = Unit-prop
+lined_prop d (After at count) = Unit-prop
 lined_prop d (Rounds line node count left) = Unit-prop
 lined_prop d (Elements line fields index total) = statement_set _ _
 lined_prop d (Counted line fields index total) = statement_set _ _

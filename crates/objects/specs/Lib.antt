@@ -1,6 +1,7 @@
 pub mod Tops
 pub mod Frames
 pub mod Upcoming
+pub mod Passed
 pub mod Ahead
 pub mod Tries
 pub mod Scenes

@@ -1,5 +1,5 @@
 -- Over which bits a step does as it did, and how far it goes.
-use Rattle.std.specs.Prelude.{◌≡◌, ℕ, ◌+◌, ◌≤◌, Bool, List, length, Ok, Err, Result}
+use Rattle.std.specs.Prelude.{◌≡◌, ℕ, ◌+◌, ◌≤◌, min, Bool, List, length, Ok, Err, Result}
 use Rattle.rules.specs.declared.faults.ReadingFault.{ReadingFault}
 use Rattle.roundtrip.specs.Least.{Agree}
 use Rattle.steps.specs.Took.{Took}
@@ -11,13 +11,18 @@ pub record Alike (B C : List Bool) (p q : ℕ) : Type 0 where
   pub long : length B ≡ length C
   pub agree : Agree B C p q
 
+-- no step looks further than so many bits: fewer are skipped by an alignment than its number, which has 16 bits, and
+-- then at most 32 are read
+abbrev pub reach : ℕ
+reach = 65567
+
 -- the bits over which a step from p does as it did: what it looked at is the same
 abbrev pub Likewise : (bits B : List Bool) → (p : ℕ) → Result Move ReadingFault → Type 0
-Likewise bits B p (Ok (Quiet q)) = Alike bits B p q
-Likewise bits B p (Ok (Give i q)) = Alike bits B p (i.place + i.length)
+Likewise bits B p (Ok (Quiet q)) = Alike bits B p (min q (p + reach))
+Likewise bits B p (Ok (Give i q)) = Alike bits B p (min (i.place + i.length) (p + reach))
 Likewise bits B p (Ok (Begin line u index)) = length bits ≡ length B
 Likewise bits B p (Ok Leave) = length bits ≡ length B
-Likewise bits B p (Err f) = B ≡ bits
+Likewise bits B p (Err f) = Alike bits B p (p + reach)
 
 -- a step from p moves the place forward, and not past the window's end
 abbrev pub Bounded : (p end : ℕ) → Result Move ReadingFault → Type 0

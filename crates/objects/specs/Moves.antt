@@ -20,6 +20,7 @@ use Rattle.objects.specs.declared.scene.Scene.{Scene}
 use Rattle.objects.specs.declared.upcoming.BlockLine.{BlockLine}
 use Rattle.objects.specs.Frames.{frames}
 use Rattle.objects.specs.Ahead.{Inner, inner_of, object_of, onto, state, content_run, inner_run, code_run, Uses, Fit, Room}
+use Rattle.objects.specs.Passed.{passed}
 use Rattle.objects.specs.Likewise.{Likewise, Bounded}
 use Rattle.objects.specs.Scenes.{described, source_bits}
 
@@ -28,16 +29,19 @@ pub record OwnEnd (d : Description) (i : Item) (q : ℕ) : Type 0 where
   pub after : q ≡ end_of d i
   pub long : i.place + i.length ≡ end_of d i
 
+-- `before` silent steps are taken before what a step hands out, or does last
 module _ (d : Description) (bits : List Bool) (o : Object) where
   -- nothing is handed out
   pub record Quietly (from : Objects → Run State) (q : ℕ) (c : Inner) : Type 0 where
-    pub same : (obj : Objects) → from obj ≡ pass (inner_run d bits o c q obj)
+    pub before : ℕ
+    pub same : (obj : Objects) → from obj ≡ passed before (pass (inner_run d bits o c q obj))
     pub fit : Fit d c.frames
     pub near : q ≤ 2147483647
 
   -- a value is handed out
   pub record Gives (from : Objects → Run State) (i : Item) (q : ℕ) (c : Inner) : Type 0 where
-    pub same : (obj : Objects) → from obj ≡ out i (inner_run d bits o c q obj)
+    pub before : ℕ
+    pub same : (obj : Objects) → from obj ≡ passed before (out i (inner_run d bits o c q obj))
     pub kind : i.kind ≡ Value
     -- where no line looks ahead, it goes on where the item's own bits end
     pub ends : Straight d → OwnEnd d i q
@@ -45,20 +49,23 @@ module _ (d : Description) (bits : List Bool) (o : Object) where
     pub near : q ≤ 2147483647
 
   pub record Refuses (from : Objects → Run State) (f : ReadingFault) (c : Inner) : Type 0 where
-    pub same : (obj : Objects) → from obj ≡ stop f
+    pub before : ℕ
+    pub same : (obj : Objects) → from obj ≡ passed before (stop f)
     pub fit : Fit d c.frames
 
   -- an object begins at the place p
   pub record Begins (from : Objects → Run State) (p line : ℕ) (u : UseLine) (index : ℕ) (c : Inner) : Type 0 where
+    pub before : ℕ
     pub same : (obj : Objects) → from obj
-        ≡ bind (obj line u.class index o.window p)
-        (λ t. content_run d bits obj o c.extension c.frames (after_object u t (state p c)))
+        ≡ passed before (bind (obj line u.class index o.window p)
+        (λ t. content_run d bits obj o c.extension c.frames (after_object u t (state p c))))
     pub fit : Fit d c.frames
     pub uses : Uses d line u
 
   -- nothing is left to do
   pub record Leaves (from : Objects → Run State) (p : ℕ) (c : Inner) : Type 0 where
-    pub same : (obj : Objects) → from obj ≡ done (state p c)
+    pub before : ℕ
+    pub same : (obj : Objects) → from obj ≡ passed before (done (state p c))
     pub fit : Fit d c.frames
 
   -- a step from what lies ahead at a place

@@ -4,11 +4,9 @@ use Rattle.bits.specs.declared.source.Source.{Ghosts}
 use Rattle.table.specs.Description.{Description, description}
 use Rattle.rules.specs.Checks.{Check}
 use Rattle.rules.specs.Values.{value}
-use Rattle.rules.specs.Reading.{counted}
 use Rattle.values.specs.Names.{named_by}
 use Rattle.objects.specs.declared.inside.Inside.{Inside}
 use Rattle.objects.specs.declared.scene.Scene.{Scene}
-use Rattle.objects.specs.Ahead.{inner_of, object_of, state}
 
 module _ {S : Type 0} {g : Ghosts S} where
   -- the description
@@ -22,7 +20,3 @@ module _ {S : Type 0} {g : Ghosts S} where
   -- the value of a node in the object
   abbrev pub node_value : Scene S g → Inside → ℕ → Check ℤ
   node_value s i node = value (described s).nodes s.about.size (named_by i.names) node
-
-  -- a count that a node gives; without a node it is 1
-  abbrev pub node_count : Scene S g → Inside → ℕ → Check ℕ
-  node_count s i node = counted (described s) (source_bits s) (object_of s.about) (state s.place (inner_of i)) node

@@ -13,6 +13,11 @@ pub enum Frame {
         at: u32,
         count: u16,
     },
+    // the same, after a read of one value, whose end is still to be passed over
+    After {
+        at: u32,
+        count: u16,
+    },
     // the rounds of a while, of which `left` may follow: its node, and the lines of its block
     Rounds {
         line: u16,

@@ -25,6 +25,13 @@ impl Frames {
         }
     }
 
+    // Takes away all.
+    pub fn clear(&mut self)
+        ensures { frames self.new ≡ [] }
+    {
+        self.depth = 0;
+    }
+
     // Takes away what comes first.
     pub fn pop(&mut self) -> Option<Frame>
         ensures { Popped (frames self.old) result (frames self.new) }

@@ -2,7 +2,7 @@
 ghost use Rattle.std.specs.Prelude.{◌≡◌, ◌+◌};
 ghost use Rattle.records.specs.declared.statements.Statement.TheVariants.{Read, Assign, MapRead, Use, If, While};
 ghost use Rattle.rules.specs.Reading.{value_item};
-ghost use Rattle.objects.specs.declared.frame.Frame.TheVariants.{Lines};
+ghost use Rattle.objects.specs.declared.frame.Frame.TheVariants.{Lines, After};
 ghost use Rattle.objects.specs.Ahead.{object_of};
 ghost use Rattle.objects.specs.Moves.{LineFits, LineMoved};
 
@@ -26,6 +26,16 @@ impl BlockLine {
     {
         Frame::Lines {
             at: self.line as u32 + 1,
+            count: self.after,
+        }
+    }
+
+    // The same, where it has read one value.
+    pub(crate) fn lines_after_value(self) -> Frame
+        ensures { result ≡ After (self.line + 1) self.after }
+    {
+        Frame::After {
+            at: u32::from(self.line) + 1,
             count: self.after,
         }
     }
@@ -64,7 +74,28 @@ impl Inside {
         Ok(Move::Quiet { place: scene.place })
     }
 
-    // Begins the elements of a read.
+    // Reads the value of a read without a count, and hands it out: its elements would be begun, gone through and ended in
+    // three steps.
+    fn read_one<S: Source>(
+        &mut self,
+        scene: &Scene<S>,
+        at: BlockLine,
+        fields: ReadLine,
+    ) -> Result<Move, ReadingFault>
+        requires fits { LineFits scene.now (Read fields) at self.old }
+        requires one { fields.count ≡ 0 }
+        ensures { LineMoved scene.now (Read fields) at self.old result self.new }
+    {
+        let got = scene.tried(at.line, self.element(scene, fields))?;
+        write(&mut self.names, fields.name, got.value);
+        self.frames.push(at.lines_after_value());
+        Ok(Move::Give {
+            item: value_item(scene.about, at.line, 0, got),
+            place: got.after,
+        })
+    }
+
+    // Reads one value, or begins the elements of a read.
     pub(crate) fn read<S: Source>(
         &mut self,
         scene: &Scene<S>,
@@ -74,7 +105,10 @@ impl Inside {
         requires { LineFits scene.now (Read fields) at self.old }
         ensures { LineMoved scene.now (Read fields) at self.old result self.new }
     {
-        let total = scene.tried(at.line, self.count_or_one(scene, fields.count))?;
+        if fields.count == 0 {
+            return self.read_one(scene, at, fields);
+        }
+        let total = scene.tried(at.line, self.count(scene, fields.count))?;
         let elements = Frame::Elements {
             line: at.line,
             fields,

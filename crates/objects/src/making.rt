@@ -28,23 +28,32 @@ impl Inside {
         }
     }
 
-    // An object of a class at its beginning; of class 0 all is passed over.
-    pub fn begun(tables: &Loaded, class: u16) -> Inside
-        requires { Readable (description tables.now) }
-        ensures { Begun (description tables.now) class (inner_of result) }
+    // Has nothing to do, and its names are 0. In place: an object has a kilobyte of names.
+    fn clear(&mut self)
+        ensures { inner_of self.new ≡ record { frames = []; extension = 0; names = all_zero } }
     {
+        self.frames.clear();
+        self.extension = 0;
+        self.names = [0; NAMES];
+    }
+
+    // Becomes an object of a class at its beginning; of class 0 all is passed over.
+    pub fn begin(&mut self, tables: &Loaded, class: u16)
+        requires { Readable (description tables.now) }
+        ensures { Begun (description tables.now) class (inner_of self.new) }
+    {
+        self.clear();
         let extensions: &[Extension] = &tables.extensions;
         if class == 0 {
-            return Inside::idle(extensions.len());
+            self.extension = extensions.len();
+            return;
         }
         let own = tables.class(class as usize);
         let base = tables.class(own.base as usize);
-        let mut inside = Inside::idle(0);
-        inside.frames.push_both(
+        self.frames.push_both(
             Frame::from(Stretch::from(own)),
             Frame::from(Stretch::from(base)),
         );
-        inside
     }
 
     // The value of a name, 0 where there is none.

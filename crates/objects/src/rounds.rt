@@ -60,7 +60,12 @@ impl Inside {
     }
 
     // One element of a read.
-    fn element<S: Source>(&self, scene: &Scene<S>, fields: ReadLine) -> Result<Got, Failure>
+    #[inline(always)]
+    pub(crate) fn element<S: Source>(
+        &self,
+        scene: &Scene<S>,
+        fields: ReadLine,
+    ) -> Result<Got, Failure>
         ensures value { result ≡ element (source_bits scene.now) scene.now.about.window fields (node_value scene.now self.now fields.width) (node_value scene.now self.now fields.lowest) (node_value scene.now self.now fields.highest) scene.now.place }
         ensures bound { IfOk result (λ g. Took scene.now.place scene.now.about.window.end g.place g.length g.after) }
     {

@@ -1,6 +1,7 @@
 // One step of an open object.
-ghost use Rattle.std.specs.Prelude.{◌≡◌, []};
+ghost use Rattle.std.specs.Prelude.{◌≡◌, true, [], Ok};
 ghost use Rattle.objects.specs.declared.frame.Frame.TheVariants.{Lines};
+ghost use Rattle.objects.specs.declared.moves.Move.TheVariants.{Quiet};
 ghost use Rattle.objects.specs.Frames.{frames};
 ghost use Rattle.objects.specs.Moves.{FrameFits, FrameMoved, InsideFits, InsideMoved};
 
@@ -14,6 +15,17 @@ use records::records::Extension;
 use records::stretches::Stretch;
 use rules::faults::ReadingFault;
 use table::record::record_at;
+
+// Whether nothing was handed out, and the place is the same.
+#[inline(always)]
+fn stays(moved: Result<Move, ReadingFault>, place: u32) -> bool
+    ensures { result ≡ true → moved ≡ Ok (Quiet place) }
+{
+    match moved {
+        Ok(Move::Quiet { place: now }) => now == place,
+        Ok(Move::Give { .. } | Move::Begin { .. } | Move::Leave) | Err(_) => false,
+    }
+}
 
 impl Inside {
     // Looks at the next extension, or leaves the object where none is left.
@@ -43,6 +55,7 @@ impl Inside {
     }
 
     // The next of some lines.
+    #[inline(always)]
     fn line<S: Source>(
         &mut self,
         scene: &Scene<S>,
@@ -60,13 +73,14 @@ impl Inside {
 
     // One step: what comes first of what the object has to do. One match over a closed set of frames, which the open
     // objects keep: closures would be boxed, and nothing is allocated after opening.
-    pub fn step<S: Source>(&mut self, scene: &Scene<S>) -> Result<Move, ReadingFault>
+    fn turn<S: Source>(&mut self, scene: &Scene<S>) -> Result<Move, ReadingFault>
         requires { InsideFits scene.now self.old }
         ensures { InsideMoved scene.now self.old result self.new }
     {
         match self.frames.pop() {
             None => self.extend(scene),
             Some(Frame::Lines { at, count }) => self.line(scene, at, count),
+            Some(Frame::After { at, count }) => self.line(scene, at, count),
             Some(
                 Frame::Rounds {
                     line,
@@ -98,6 +112,20 @@ impl Inside {
                     index,
                 },
             ) => self.next_to_end(scene, line, fields, index),
+        }
+    }
+
+    // Steps until something is handed out, an object begins or is left, or the place moves: all of them are taken in one
+    // scene.
+    pub fn step<S: Source>(&mut self, scene: &Scene<S>) -> Result<Move, ReadingFault>
+        requires { InsideFits scene.now self.old }
+        ensures { InsideMoved scene.now self.old result self.new }
+    {
+        loop {
+            let moved = self.turn(scene);
+            if !stays(moved, scene.place) {
+                return moved;
+            }
         }
     }
 }

@@ -2,7 +2,7 @@ ghost use Rattle.std.specs.Prelude.{◌≡◌, ◌≤◌};
 ghost use Rattle.rules.specs.Reading.{write};
 ghost use Rattle.rules.specs.Steps.{natural};
 ghost use Rattle.values.specs.Names.{named_by};
-ghost use Rattle.objects.specs.Scenes.{described, node_value, node_count};
+ghost use Rattle.objects.specs.Scenes.{described, node_value};
 
 use crate::inside::{Inside, NAMES};
 use crate::scene::Scene;
@@ -48,19 +48,5 @@ impl Inside {
         u16::try_from(self.value(scene, node)?)
             .ok()
             .ok_or(ReadingCause::WidthOrCount.into())
-    }
-
-    // The same; without a node the count is 1.
-    pub(crate) fn count_or_one<S: Source>(
-        &self,
-        scene: &Scene<S>,
-        node: u16,
-    ) -> Result<u16, Failure>
-        ensures { result ≡ node_count scene.now self.now node }
-    {
-        if node == 0 {
-            return Ok(1);
-        }
-        self.count(scene, node)
     }
 }

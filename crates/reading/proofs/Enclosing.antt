@@ -2,18 +2,23 @@
 use Rattle.std.proofs.Common.{◌≡◌, ℕ, suc, ◌+◌, ◌≤◌, min, Bool, true, false, cond, List, [], ◌∷◌, length, get_or, Some, None, Ok, Err, Option, sym, refl, ap, ◌∙◌, subst, arith}
 use Rattle.rules.specs.declared.items.Item.{Item}
 use Rattle.rules.specs.declared.items.Kind.{Kind}
-use Rattle.rules.specs.declared.items.Kind.TheVariants.{Value}
+use Rattle.rules.specs.declared.items.Kind.TheVariants.{Value, Open, Close}
+use Rattle.records.specs.declared.records.Class.{Class}
+use Rattle.records.specs.Classes.{is_base}
+use Rattle.rules.specs.Steps.{id_width}
+use Rattle.std.proofs.lemmas.Bool.{cond_both}
 use Rattle.steps.specs.Took.{Took}
 use Rattle.objects.specs.declared.inside.Inside.{Inside}
-use Rattle.objects.specs.Likewise.{Alike}
+use Rattle.objects.specs.Passed.{passed}
+use Rattle.objects.specs.Likewise.{Alike, reach}
 use Rattle.objects.proofs.Alikes.{alike_self}
 use Rattle.reading.specs.declared.open_object.OpenObject.{OpenObject}
 use Rattle.reading.specs.declared.walk.Walk.{Walk}
 use Rattle.reading.specs.Pushes.{around}
-use Rattle.reading.specs.Walks.{Answer, no_object, objects_of, from_of, looked_to, Likewise, Enclosed, EnclosedOnce, EnclosedWalk, Within, Handed, Bounded, OwnEnds, walk_ahead, Sound, Turned, Walked, Stepped}
+use Rattle.reading.specs.Walks.{Answer, no_object, objects_of, from_of, looked_to, sight, Likewise, Enclosed, EnclosedOnce, EnclosedWalk, Within, Handed, Bounded, OwnEnds, walk_ahead, Sound, Turned, Walked, Stepped}
 use Rattle.table.specs.Description.{Description}
 use Rattle.rules.specs.Trace.{Run}
-use Rattle.reading.proofs.Stepping.{innermost, turned_from}
+use Rattle.reading.proofs.Stepping.{innermost, answered_later}
 
 pub begun_from : (w : Walk) → w.started ≡ true → from_of w ≡ w.place
 begun_from w e = ap (λ b. cond b w.place 0) e
@@ -27,11 +32,22 @@ begun_enclosed L w e = subst (λ b. EnclosedOnce b L (objects_of w) w.place) e
 pub likewise_long : (bits B : List Bool) (p : ℕ) (r : Option Answer) (w : Walk) → Likewise bits B p r w → length bits ≡ length B
 likewise_long bits B p None w l = l.long
 likewise_long bits B p (Some (Ok (Some i))) w l = l.long
-likewise_long bits B p (Some (Ok None)) w l = ap length (sym l)
-likewise_long bits B p (Some (Err f)) w l = ap length (sym l)
+likewise_long bits B p (Some (Ok None)) w l = l.long
+likewise_long bits B p (Some (Err f)) w l = l.long
 
-pub value_alike : (bits B : List Bool) (p : ℕ) (i : Item) (q : ℕ) → i.kind ≡ Value → Alike bits B p (looked_to i.kind i.place i.length q) → Alike bits B p (i.place + i.length)
-value_alike bits B p i q k = subst (λ (x : Kind). Alike bits B p (looked_to x i.place i.length q)) k
+pub value_alike : (bits B : List Bool) (p : ℕ) (i : Item) (q : ℕ) → i.kind ≡ Value → Alike bits B p (sight i.kind p i.place i.length q)
+    → Alike bits B p (min (i.place + i.length) (p + reach))
+value_alike bits B p i q k = subst (λ (x : Kind). Alike bits B p (sight x p i.place i.length q)) k
+
+-- a step looks no further than its item's bits and those passed over reach
+pub sight_less : (k : Kind) (p place length after : ℕ) → p ≤ looked_to k place length after → sight k p place length after ≤ looked_to k place length after
+sight_less Value p place length after h = omega arith
+sight_less Open p place length after h = omega arith
+sight_less Close p place length after h = h
+
+-- an id is as narrow as its class says
+pub id_narrow : (c : Class) → c.width ≤ 16 → id_width c ≤ 65527
+id_narrow c h = cond_both (is_base c) c.width 0 (λ x. x ≤ 65527) (λ e. omega arith) (λ e. omega arith)
 
 pub enclosed_less : (L : ℕ) (os : List OpenObject) (p q : ℕ) → q ≤ p → Enclosed L os p → Enclosed L os q
 enclosed_less L [] p q l h = omega arith
@@ -45,8 +61,8 @@ enclosed_end L (a ∷ os) p h = let k = enclosed_end L os a.opened.about.window.
 same_likewise : (bits : List Bool) (p : ℕ) (r : Option Answer) (w : Walk) → Likewise bits bits p r w
 same_likewise bits p None w = alike_self
 same_likewise bits p (Some (Ok (Some i))) w = alike_self
-same_likewise bits p (Some (Ok None)) w = refl
-same_likewise bits p (Some (Err f)) w = refl
+same_likewise bits p (Some (Ok None)) w = alike_self
+same_likewise bits p (Some (Err f)) w = alike_self
 
 turned_sound : (d : Description) (bits : List Bool) (from : Run (Unit {0})) (r : Option Answer) (w : Walk) → Turned d bits from r w → Sound d w
 turned_sound d bits from None w h = h.sound
@@ -58,14 +74,16 @@ pub stepped_sound : (d : Description) (bits : List Bool) (v : Walk) (r : Option 
 stepped_sound d bits v r w h = turned_sound d bits (walk_ahead d bits v) r w (h.moved bits (same_likewise bits (from_of v) r w))
 
 -- the same step, from what lies ahead in other words
-pub walked_from : (d : Description) (bits : List Bool) (p q : ℕ) {from to : List Bool → Run (Unit {0})} {inside within : Type 0} (r : Option Answer) (w : Walk)
-    → p ≡ q → ((B : List Bool) → length bits ≡ length B → from B ≡ to B) → (inside → within)
-    → Walked d bits q to within r w → Walked d bits p from inside r w
-walked_from d bits p q r w e same goes h =
+pub walked_from : (d : Description) (bits : List Bool) (p q : ℕ) {from : List Bool → Run (Unit {0})} (to : List Bool → Run (Unit {0})) {inside within : Type 0} (r : Answer) (w : Walk)
+    → p ≡ q → ((B : List Bool) → length bits ≡ length B → (n : ℕ) × (from B ≡ passed n (to B))) → (inside → within)
+    → Walked d bits q to within (Some r) w → Walked d bits p from inside (Some r) w
+walked_from d bits p q to r w e same goes h =
     record {
-      moved = λ B l. turned_from d B r w (same B (likewise_long bits B p r w l)) (h.moved B (subst (λ n. Likewise bits B n r w) e l));
-      bound = λ k. subst (λ n. Bounded (length bits) n r w) (sym e) (h.bound (goes k));
-      ends = λ st. subst (λ n. OwnEnds d bits n r w) (sym e) (h.ends st);
+      moved = λ B l.
+          let s = same B (likewise_long bits B p (Some r) w l) in
+          answered_later d B (to B) s.0 r w s.1 (h.moved B (subst (λ n. Likewise bits B n (Some r) w) e l));
+      bound = λ k. subst (λ n. Bounded (length bits) n (Some r) w) (sym e) (h.bound (goes k));
+      ends = λ st. subst (λ n. OwnEnds d bits n (Some r) w) (sym e) (h.ends st);
     }
 
 -- an item that is no value, where the walk then stands in its windows

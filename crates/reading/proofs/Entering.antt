@@ -16,6 +16,8 @@ use Rattle.rules.specs.Lookups.{greatest, object_class}
 use Rattle.rules.specs.Steps.{header}
 use Rattle.rules.specs.Reading.{State, Object, Objects, write, open_item, close_item, content, inner, closed, opened, object, all_zero, after_object}
 use Rattle.values.specs.Names.{named_by}
+use Rattle.objects.specs.Passed.{passed}
+use Rattle.objects.proofs.Passing.{passed_bind}
 use Rattle.objects.specs.declared.inside.Inside.{Inside}
 use Rattle.objects.specs.Frames.{frames}
 use Rattle.objects.specs.Ahead.{Inner, inner_of, inner_run, content_run, object_of, state, with_names}
@@ -127,37 +129,38 @@ module _ (d : Description) (bits : List Bool) where
     abbrev here : Inner → ℕ → Objects → Run State
     here c q obj = inner_run d bits (object_of (seen (length bits) a).about) c q obj
 
-    pub quiet_in : (c b : Inner) (q : ℕ) → ((obj : Objects) → here c p obj ≡ pass (here b q obj)) → within_others a c os p ≡ pass (within_others a b os q)
+    pub quiet_in : (n : ℕ) (c b : Inner) (q : ℕ) → ((obj : Objects) → here c p obj ≡ passed n (pass (here b q obj))) → within_others a c os p ≡ passed n (pass (within_others a b os q))
     unfolding bind
-    quiet_in c b q e = ap (λ (r : Run State). bind r (after_content d bits a os)) (e (object d bits (15 - length os)))
+    quiet_in n c b q e = ap (λ (r : Run State). bind r (after_content d bits a os)) (e (object d bits (15 - length os))) ∙ passed_bind n _ (after_content d bits a os)
 
-    pub gives_in : (c b : Inner) (i : Item) (q : ℕ) → ((obj : Objects) → here c p obj ≡ out i (here b q obj)) → within_others a c os p ≡ out i (within_others a b os q)
+    pub gives_in : (n : ℕ) (c b : Inner) (i : Item) (q : ℕ) → ((obj : Objects) → here c p obj ≡ passed n (out i (here b q obj))) → within_others a c os p ≡ passed n (out i (within_others a b os q))
     unfolding bind
-    gives_in c b i q e = ap (λ (r : Run State). bind r (after_content d bits a os)) (e (object d bits (15 - length os)))
+    gives_in n c b i q e = ap (λ (r : Run State). bind r (after_content d bits a os)) (e (object d bits (15 - length os))) ∙ passed_bind n _ (after_content d bits a os)
 
-    pub refuses_in : (c : Inner) (f : ReadingFault) → ((obj : Objects) → here c p obj ≡ stop f) → within_others a c os p ≡ stop f
+    pub refuses_in : (n : ℕ) (c : Inner) (f : ReadingFault) → ((obj : Objects) → here c p obj ≡ passed n (stop f)) → within_others a c os p ≡ passed n (stop f)
     unfolding bind
-    refuses_in c f e = ap (λ (r : Run State). bind r (after_content d bits a os)) (e (object d bits (15 - length os)))
+    refuses_in n c f e = ap (λ (r : Run State). bind r (after_content d bits a os)) (e (object d bits (15 - length os))) ∙ passed_bind n _ (after_content d bits a os)
 
-    pub begins_in : (c : Inner) (j : Inside) (line : ℕ) (u : UseLine) (index : ℕ) (h : u.receiving ≤ 128)
+    pub begins_in : (n : ℕ) (c : Inner) (j : Inside) (line : ℕ) (u : UseLine) (index : ℕ) (h : u.receiving ≤ 128)
         → ((obj : Objects) → here c p obj
-        ≡ bind (obj line u.class index (capped (length bits) a.about.window) p)
-        (λ t. content_run d bits obj (object_of (seen (length bits) a).about) j.extension (frames j.frames) (after_object u t (state p (inner_of j)))))
+        ≡ passed n (bind (obj line u.class index (capped (length bits) a.about.window) p)
+        (λ t. content_run d bits obj (object_of (seen (length bits) a).about) j.extension (frames j.frames) (after_object u t (state p (inner_of j))))))
         → within_others a c os p
-        ≡ beginning d bits (record { opened = a; inside = j } ∷ os) (using_of line u index h) (capped (length bits) a.about.window) p
+        ≡ passed n (beginning d bits (record { opened = a; inside = j } ∷ os) (using_of line u index h) (capped (length bits) a.about.window) p)
     unfolding rest_from
-    begins_in c j line u index h e =
-        let n : 15 - length os ≡ 16 - suc (length os) = omega arith in
+    begins_in n c j line u index h e =
+        let depth : 15 - length os ≡ 16 - suc (length os) = omega arith in
         let obj = object d bits (15 - length os) in
         ap (λ (r : Run State). bind r (after_content d bits a os)) (e obj)
-        ∙ bind_assoc (obj line u.class index (capped (length bits) a.about.window) p)
+        ∙ passed_bind n _ (after_content d bits a os)
+        ∙ ap (passed n) (bind_assoc (obj line u.class index (capped (length bits) a.about.window) p)
         (λ t. content_run d bits obj (object_of (seen (length bits) a).about) j.extension (frames j.frames) (after_object u t (state p (inner_of j)))) (after_content d bits a os)
         ∙ ap (λ k. bind (object d bits k line u.class index (capped (length bits) a.about.window) p)
-        (λ t. rest_from d bits (record { opened = a; inside = j } ∷ os) (received (using_of line u index h) t (record { opened = a; inside = j } ∷ os)))) n
+        (λ t. rest_from d bits (record { opened = a; inside = j } ∷ os) (received (using_of line u index h) t (record { opened = a; inside = j } ∷ os)))) depth)
 
-    pub leaves_in : (c b : Inner) → ((obj : Objects) → here c p obj ≡ done (state p b)) → within_others a c os p ≡ after_content d bits a os (state p b)
+    pub leaves_in : (n : ℕ) (c b : Inner) → ((obj : Objects) → here c p obj ≡ passed n (done (state p b))) → within_others a c os p ≡ passed n (after_content d bits a os (state p b))
     unfolding bind
-    leaves_in c b e = ap (λ (r : Run State). bind r (after_content d bits a os)) (e (object d bits (15 - length os)))
+    leaves_in n c b e = ap (λ (r : Run State). bind r (after_content d bits a os)) (e (object d bits (15 - length os))) ∙ passed_bind n _ (after_content d bits a os)
 
   -- the place after an object
   pub left_at : (a : Opened) (os : List OpenObject) (c : Inner) (p q : ℕ) → q ≡ cond (eqb a.greatest 0) p (min a.about.window.end (length bits))

@@ -7,6 +7,7 @@ pub mod Taking
 mod Turns
 pub mod Enclosing
 mod Opening
-mod Nexts
+pub mod Nexts
 mod Filling
 pub mod Heights
+pub mod Tellings

@@ -1,9 +1,10 @@
 -- What a reading hands out, from what lies ahead.
-use Rattle.std.proofs.Common.{◌≡◌, ◌<◌, Some, None, Ok, Err, Option, Result, sym, refl, ap, subst, arith}
+use Rattle.std.proofs.Common.{◌≡◌, ℕ, zero, suc, Some, None, Ok, Err, Option, Result, sym, refl, ap, ◌∙◌, subst}
 use Rattle.rules.specs.declared.items.Item.{Item}
 use Rattle.rules.specs.declared.faults.ReadingFault.{ReadingFault}
 use Rattle.rules.specs.Trace.{Run, out, pass, stop, done}
-use Rattle.reading.specs.Reads.{held, skipped, passes, Next, Told}
+use Rattle.objects.specs.Passed.{passed}
+use Rattle.reading.specs.Reads.{held, skipped, Next, Told}
 
 pub held_none : (f : Option ReadingFault) (t : Run (Unit {0})) → f ≡ None → held f t ≡ t
 held_none f t e = subst (λ (x : Option ReadingFault). held x t ≡ t) (sym e) refl
@@ -11,25 +12,26 @@ held_none f t e = subst (λ (x : Option ReadingFault). held x t ≡ t) (sym e) r
 pub held_some : (f : Option ReadingFault) (g : ReadingFault) (t : Run (Unit {0})) → f ≡ Some g → held f t ≡ stop g
 held_some f g t e = subst (λ (x : Option ReadingFault). held x t ≡ stop g) (sym e) refl
 
-pub skipped_pass : (a b : Run (Unit {0})) → a ≡ pass b → skipped a ≡ skipped b
+skipped_passed : (n : ℕ) (t : Run (Unit {0})) → skipped (passed n t) ≡ skipped t
 unfolding skipped
-skipped_pass a b e = ap skipped e
+skipped_passed zero t = refl
+skipped_passed (suc n) t = skipped_passed n t
 
-pub skipped_out : (a b : Run (Unit {0})) (i : Item) → a ≡ out i b → skipped a ≡ out i b
+pub skipped_pass : (a b : Run (Unit {0})) (n : ℕ) → a ≡ passed n (pass b) → skipped a ≡ skipped b
 unfolding skipped
-skipped_out a b i e = ap skipped e
+skipped_pass a b n e = ap skipped e ∙ skipped_passed n (pass b)
 
-pub skipped_stop : (a : Run (Unit {0})) (f : ReadingFault) → a ≡ stop f → skipped a ≡ stop f
+pub skipped_out : (a b : Run (Unit {0})) (i : Item) (n : ℕ) → a ≡ passed n (out i b) → skipped a ≡ out i b
 unfolding skipped
-skipped_stop a f e = ap skipped e
+skipped_out a b i n e = ap skipped e ∙ skipped_passed n (out i b)
 
-pub skipped_done : (a : Run (Unit {0})) → a ≡ done tt → skipped a ≡ done tt
+pub skipped_stop : (a : Run (Unit {0})) (f : ReadingFault) (n : ℕ) → a ≡ passed n (stop f) → skipped a ≡ stop f
 unfolding skipped
-skipped_done a e = ap skipped e
+skipped_stop a f n e = ap skipped e ∙ skipped_passed n (stop f)
 
-pub fewer_passes : (a b : Run (Unit {0})) → a ≡ pass b → passes b < passes a
-unfolding passes
-fewer_passes a b e = omega (arith, ap passes e)
+pub skipped_done : (a : Run (Unit {0})) (n : ℕ) → a ≡ passed n (done tt) → skipped a ≡ done tt
+unfolding skipped
+skipped_done a n e = ap skipped e ∙ skipped_passed n (done tt)
 
 skip_next : (a : Run (Unit {0})) (r : Result (Option Item) ReadingFault) (b : Run (Unit {0})) → Next (skipped a) r b → Next a r b
 unfolding skipped

@@ -1,6 +1,10 @@
 -- The open objects, through what is done to them.
-use Rattle.std.proofs.Common.{Some, None, Option, Ok, Err, ◌≡◌, ℕ, zero, suc, ◌-◌, ◌<◌, ◌≤◌, min, Bool, true, false, cond, not, ◌&&◌, ◌||◌, eqb, ltb, ◌≢◌, List, [], ◌∷◌, length, get_or, drop, set, sym, refl, ap, ◌∙◌, subst, ap₂, arith, get_or-set_same}
+use Rattle.std.proofs.Common.{Some, None, Option, Ok, Err, ◌≡◌, ℕ, zero, suc, ◌+◌, ◌-◌, ◌<◌, ◌≤◌, min, Bool, true, false, cond, not, ◌&&◌, ◌||◌, eqb, ltb, ◌≢◌, List, [], ◌∷◌, length, get_or, drop, set, sym, refl, ap, ◌∙◌, subst, ap₂, arith, get_or-set_same, length-drop}
 use Rattle.std.proofs.lemmas.Bool.Decides.{nat_tests}
+use Rattle.std.proofs.lemmas.Bool.{ltb-true}
+use Rattle.std.proofs.lemmas.List.{take_all}
+use Rattle.roundtrip.proofs.Agree.{part_agree}
+use Rattle.objects.specs.Likewise.{Alike, reach}
 use Rattle.bits.specs.Bits.{number}
 use Rattle.table.specs.Description.{Description}
 use Rattle.rules.specs.declared.faults.ReadingCause.TheVariants.{BitsLeft}
@@ -13,7 +17,9 @@ use Rattle.values.specs.Names.{named_by}
 use Rattle.objects.specs.declared.inside.Inside.{Inside}
 use Rattle.objects.specs.Tops.{tops}
 use Rattle.objects.specs.Frames.{frames}
+use Rattle.objects.specs.Passed.{passed}
 use Rattle.objects.specs.Ahead.{Fit, Inner, inner_of, with_names, state}
+use Rattle.objects.proofs.Passing.{passed_add}
 use Rattle.objects.proofs.Stacks.{tops_set, stack_pop, tops_length}
 use Rattle.reading.specs.declared.open_object.Using.{Using}
 use Rattle.reading.specs.declared.open_object.OpenObject.{OpenObject}
@@ -82,6 +88,24 @@ around_next xs (suc i) h = let z : suc i - 1 ≡ i = omega arith in rw z refl
 abbrev pub well_ended : List Bool → ℕ → Bool
 well_ended bits p = ltb (length bits - p) 8 && eqb (number (drop p bits)) 0
 
+-- which looks at no more bits than a step may
+drop_alike : (bits B : List Bool) (p : ℕ) → length bits - p < 8 → Alike bits B p (p + reach) → drop p bits ≡ drop p B
+drop_alike bits B p h a =
+    let n = length bits - p in
+    let long = a.long in
+    let l = length-drop p bits in
+    let m = length-drop p B in
+    sym (take_all n (drop p bits) (omega arith)) ∙ part_agree bits B a.long n p (λ k u v. a.agree k u (omega arith)) ∙ take_all n (drop p B) (omega arith)
+
+pub ended_alike : (bits B : List Bool) (p : ℕ) → Alike bits B p (p + reach) → well_ended bits p ≡ well_ended B p
+ended_alike bits B p a = go (ltb (length bits - p) 8) refl
+  where
+    go : (t : Bool) → ltb (length bits - p) 8 ≡ t → well_ended bits p ≡ well_ended B p
+    go true e = let same = drop_alike bits B p (ltb-true (length bits - p) 8 e) a in λ i. ltb (a.long i - p) 8 && eqb (number (same i)) 0
+    go false e =
+        let f : ltb (length B - p) 8 ≡ false = ap (λ n. ltb (n - p) 8) (sym a.long) ∙ e in
+        ap (λ b. b && eqb (number (drop p bits)) 0) e ∙ sym (ap (λ b. b && eqb (number (drop p B)) 0) f)
+
 -- the end
 module _ (d : Description) (bits : List Bool) (w : Walk) (begun : w.started ≡ true) (none : objects_of w ≡ []) where
   ended : walk_ahead d bits w ≡ attempt 0 w.place (at_end bits w.place) done
@@ -121,15 +145,11 @@ pub ahead_of : (d : Description) (bits : List Bool) (v : Walk) (os : List OpenOb
     → walk_ahead d bits v ≡ rest d bits os q
 ahead_of d bits v os q s e p = λ i. cond (s i) (rest d bits (e i) (p i)) (reading d bits)
 
--- the same step from what lies ahead in other words
-answered_from : (d : Description) (bits : List Bool) {from to : Run (Unit {0})} (r : Answer) (w : Walk) → from ≡ to → Answered d bits to r w → Answered d bits from r w
-answered_from d bits (Ok (Some i)) w e t = record { same = e ∙ t.same; sound = t.sound }
-answered_from d bits (Ok None) w e t = record { same = e ∙ t.same; still = t.still; sound = t.sound }
-answered_from d bits (Err f) w e t = record { same = e ∙ t.same; sound = t.sound }
-
-pub turned_from : (d : Description) (bits : List Bool) {from to : Run (Unit {0})} (r : Option Answer) (w : Walk) → from ≡ to → Turned d bits to r w → Turned d bits from r w
-turned_from d bits None w e t = record { same = e ∙ t.same; sound = t.sound }
-turned_from d bits (Some a) w e t = answered_from d bits a w e t
+-- the same answer after silent steps
+pub answered_later : (d : Description) (bits : List Bool) {from : Run (Unit {0})} (to : Run (Unit {0})) (n : ℕ) (r : Answer) (w : Walk) → from ≡ passed n to → Answered d bits to r w → Answered d bits from r w
+answered_later d bits to n (Ok (Some i)) w e t = record { before = n + t.before; same = e ∙ ap (passed n) t.same ∙ passed_add n t.before _; sound = t.sound }
+answered_later d bits to n (Ok None) w e t = record { before = n + t.before; same = e ∙ ap (passed n) t.same ∙ passed_add n t.before _; still = t.still; sound = t.sound }
+answered_later d bits to n (Err f) w e t = record { before = n + t.before; same = e ∙ ap (passed n) t.same ∙ passed_add n t.before _; sound = t.sound }
 
 pub start_run : (d : Description) (bits : List Bool) (os : List OpenObject) (n : ℕ) → os ≡ [] → n ≡ length bits
     → reading d bits ≡ beginning d bits os (by_none d.top) (record { end = n; object = false }) 0

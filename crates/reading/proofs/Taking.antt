@@ -13,21 +13,23 @@ use Rattle.rules.specs.Lookups.{greatest, object_class}
 use Rattle.rules.specs.Steps.{header}
 use Rattle.std.proofs.lemmas.Bool.Decides.{nat_tests}
 use Rattle.roundtrip.specs.Standing.{head, gives, ends}
+use Rattle.objects.specs.Passed.{passed}
 use Rattle.objects.specs.Likewise.{Alike}
 use Rattle.objects.specs.Tops.{tops}
-use Rattle.objects.proofs.Alikes.{alike_self}
+use Rattle.objects.proofs.Alikes.{alike_self, less_alike}
 use Rattle.reading.specs.declared.offering.Saved.{Saved}
 use Rattle.reading.specs.declared.open_object.OpenObject.{OpenObject}
 use Rattle.reading.specs.declared.walk.Walk.{Walk}
 use Rattle.reading.specs.Offers.{Silent, Came, Advanced, Resumes, saved_of, Over}
 use Rattle.reading.specs.Pushes.{Leaves}
 use Rattle.reading.specs.Walks.{Answer, no_object, objects_of, rest, rest_from, walk_ahead, Sound, from_of, EnclosedOnce, EnclosedWalk, Within, Handed, Stepped}
-use Rattle.reading.proofs.Enclosing.{begun_from, not_begun_from, stepped_sound}
+use Rattle.reading.proofs.Enclosing.{begun_from, not_begun_from, stepped_sound, sight_less}
 use Rattle.reading.proofs.Stepping.{ahead_of, begun_ahead, not_begun_ahead, innermost, none_open, none_sound, sound_near, sound_all, sound_from}
 
--- bits that agree in a stretch agree in a shorter one
-less_alike : {B C : List Bool} {p q r s : ℕ} → p ≤ r → s ≤ q → Alike B C p q → Alike B C r s
-less_alike h k a = record { long = a.long; agree = λ j l m. a.agree j (omega arith) (omega arith) }
+head_passed : (n : ℕ) (t : Run (Unit {0})) → head (passed n t) ≡ head t
+unfolding head
+head_passed zero t = refl
+head_passed (suc n) t = head_passed n t
 
 module _ (d : Description) (bits : List Bool) where
   pub silent_none : (v : Walk) → Sound d v → EnclosedWalk (length bits) v → Silent d bits v v
@@ -50,7 +52,8 @@ module _ (d : Description) (bits : List Bool) where
         let k = b.ahead in
         record {
           same = λ B l.
-              s.same B (less_alike (omega arith) (omega arith) l) ∙ ap head (step.moved B (less_alike (omega arith) (omega arith) l)).same;
+              let m = step.moved B (less_alike (omega arith) (omega arith) l) in
+              s.same B (less_alike (omega arith) (omega arith) l) ∙ ap head m.same ∙ head_passed m.before _;
           sound = stepped_sound d bits w None x step;
           enclosed = subst (λ (y : Bool). EnclosedOnce y (length bits) (objects_of x) x.place) (sym b.begun) b.enclosed;
           forward = omega arith;
@@ -68,9 +71,11 @@ module _ (d : Description) (bits : List Bool) where
         let g = h.ahead in
         let k = h.kept in
         let m = h.most in
+        let n = sight_less i.kind (from_of w) i.place i.length x.place (omega arith) in
         record {
           next = λ B l.
-              s.same B (less_alike (omega arith) (omega arith) l) ∙ ap head (step.moved B (less_alike (omega arith) (omega arith) l)).same;
+              let m = step.moved B (less_alike (omega arith) n l) in
+              s.same B (less_alike (omega arith) (omega arith) l) ∙ ap head m.same ∙ head_passed m.before _;
           sound = stepped_sound d bits w (Some (Ok (Some i))) x step;
           handed = record {
             within = record { begun = h.within.begun; ahead = omega (arith, h.within.ahead); enclosed = h.within.enclosed };
@@ -81,8 +86,8 @@ module _ (d : Description) (bits : List Bool) where
           };
           ends = λ st fits. step.ends st (λ j l n. fits.0 j (omega arith) n, fits.1);
         }
-    last_came (Ok None) step = s.same bits alike_self ∙ ap head (step.moved bits refl).same
-    last_came (Err f) step = s.same bits alike_self ∙ ap head (step.moved bits refl).same
+    last_came (Ok None) step = let m = step.moved bits alike_self in s.same bits alike_self ∙ ap head m.same ∙ head_passed m.before _
+    last_came (Err f) step = let m = step.moved bits alike_self in s.same bits alike_self ∙ ap head m.same ∙ head_passed m.before _
 
     pub last_answer : (a : Answer) → Stepped d bits w (Some a) x → Leaves w (Some a) x → Advanced d bits v a x
     last_answer a step leaves =

@@ -13,6 +13,7 @@ use Rattle.objects.specs.declared.moves.Move.{Move}
 use Rattle.objects.specs.Frames.{frames}
 use Rattle.objects.specs.Ahead.{inner_of, inner_run, object_of, state, Fit}
 use Rattle.objects.specs.Moves as moves
+use Rattle.objects.specs.Passed.{passed}
 use Rattle.objects.proofs.Stacks.{tops_set}
 use Rattle.reading.specs.declared.open_object.Opened.{Opened}
 use Rattle.reading.specs.declared.open_object.OpenObject.{OpenObject}
@@ -61,14 +62,16 @@ module _ (d : Description) (bits : List Bool) (w : Walk) (i : ℕ) (e : min w.de
     pub turned_quiet : moves.Quietly d bits (object_of (seen (length bits) it.opened).about) before q (inner_of j) → Quietly d bits (walk_ahead d bits w) changed
     turned_quiet m =
         record {
-          same = ahead ∙ quiet_in d bits it.opened os w.place (inner_of it.inside) (inner_of j) q m.same ∙ ap pass (sym after);
+          before = m.before;
+          same = ahead ∙ quiet_in d bits it.opened os w.place m.before (inner_of it.inside) (inner_of j) q m.same ∙ ap (λ (t : Run (Unit {0})). passed m.before (pass t)) (sym after);
           sound = changed_sound m.fit m.near;
         }
 
     pub turned_give : (x : Item) → moves.Gives d bits (object_of (seen (length bits) it.opened).about) before x q (inner_of j) → Gives d bits (walk_ahead d bits w) x changed
     turned_give x m =
         record {
-          same = ahead ∙ gives_in d bits it.opened os w.place (inner_of it.inside) (inner_of j) x q m.same ∙ ap (out x) (sym after);
+          before = m.before;
+          same = ahead ∙ gives_in d bits it.opened os w.place m.before (inner_of it.inside) (inner_of j) x q m.same ∙ ap (λ (t : Run (Unit {0})). passed m.before (out x t)) (sym after);
           sound = changed_sound m.fit m.near;
         }
 
@@ -76,17 +79,18 @@ module _ (d : Description) (bits : List Bool) (w : Walk) (i : ℕ) (e : min w.de
     pub turned_refuse : (f : ReadingFault) → moves.Refuses d bits (object_of (seen (length bits) it.opened).about) before f (inner_of j) → Refuses d bits (walk_ahead d bits w) f (changed j w.place)
     turned_refuse f m =
         record {
-          same = ahead ∙ refuses_in d bits it.opened os w.place (inner_of it.inside) f m.same;
+          before = m.before;
+          same = ahead ∙ refuses_in d bits it.opened os w.place m.before (inner_of it.inside) f m.same;
           sound = changed_sound j w.place m.fit (sound_near d w sound);
         }
 
     pub turned_begin : (line : ℕ) (u : UseLine) (index : ℕ) (named : u.receiving ≤ 128) (v : Window) → v ≡ capped (length bits) it.opened.about.window
-        → moves.Begins d bits (object_of (seen (length bits) it.opened).about) before w.place line u index (inner_of j)
-        → walk_ahead d bits w ≡ beginning d bits (objects_of (changed j w.place)) (using_of line u index named) v w.place
+        → (m : moves.Begins d bits (object_of (seen (length bits) it.opened).about) before w.place line u index (inner_of j))
+        → walk_ahead d bits w ≡ passed m.before (beginning d bits (objects_of (changed j w.place)) (using_of line u index named) v w.place)
     turned_begin line u index named v k m =
         ahead
-        ∙ begins_in d bits it.opened os w.place (inner_of it.inside) j line u index named m.same
-        ∙ sym (λ t. beginning d bits (objects_are j w.place t) (using_of line u index named) (k t) w.place)
+        ∙ begins_in d bits it.opened os w.place m.before (inner_of it.inside) j line u index named m.same
+        ∙ sym (λ t. passed m.before (beginning d bits (objects_are j w.place t) (using_of line u index named) (k t) w.place))
 
     pub turned_leave : (a : Opened) → a ≡ seen (length bits) it.opened → length bits ≤ 2147483647
         → moves.Leaves d bits (object_of (seen (length bits) it.opened).about) before w.place (inner_of j)
@@ -98,8 +102,9 @@ module _ (d : Description) (bits : List Bool) (w : Walk) (i : ℕ) (e : min w.de
         let same_os = tops_set no_object w.objects i x i r in
         record {
           is = seen_a ∙ sym (ap (λ (y : OpenObject). seen (length bits) y.opened) same_it);
-          same = ahead ∙ leaves_in d bits it.opened os w.place (inner_of it.inside) (inner_of j) m.same
-              ∙ sym (λ t. after_content d bits (same_it t).opened (same_os t) (state w.place (inner_of (same_it t).inside)));
+          before = m.before;
+          same = ahead ∙ leaves_in d bits it.opened os w.place m.before (inner_of it.inside) (inner_of j) m.same
+              ∙ sym (λ t. passed m.before (after_content d bits (same_it t).opened (same_os t) (state w.place (inner_of (same_it t).inside))));
           fits = subst (AllFit d) (sym same_os) fits.1;
           near = sound_near d w sound;
           short = short;

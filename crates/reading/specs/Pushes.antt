@@ -5,6 +5,8 @@ use Rattle.rules.specs.Trace.{Run, out}
 use Rattle.rules.specs.Reading.{State, close_item, closed}
 use Rattle.objects.specs.Tops.{tops}
 use Rattle.objects.specs.Ahead.{inner_of, state}
+use Rattle.objects.specs.Passed.{passed}
+use Rattle.objects.specs.Starts.{Begun}
 use Rattle.reading.specs.declared.open_object.Opened.{Opened}
 use Rattle.reading.specs.declared.open_object.OpenObject.{OpenObject}
 use Rattle.reading.specs.declared.walk.Walk.{Walk}
@@ -31,6 +33,13 @@ pub record Pushed (a : OpenObject) (p : ℕ) (before after : Walk) : Type 0 wher
   pub started : after.started ≡ true
   pub kept : Kept before.depth before after
 
+-- an object is opened at its beginning
+pub record Entered (d : Description) (opened : Opened) (p : ℕ) (before after : Walk) : Type 0 where
+  pub object : OpenObject
+  pub is : object.opened ≡ opened
+  pub begun : Begun d opened.about.class (inner_of object.inside)
+  pub pushed : Pushed object p before after
+
 -- the objects around number i
 abbrev pub around : List OpenObject → ℕ → List OpenObject
 around xs i = tops no_object xs i
@@ -41,10 +50,11 @@ after_content d bits a os t =
     let u = closed d bits a.greatest (capped (length bits) a.about.window) t in
     out (close_item a.about.class a.used.line a.used.index u.place) (rest_from d bits os (received a.used u os))
 
--- the innermost object, number i and seen as a, has nothing left to do
+-- the innermost object, number i and seen as a, has nothing left to do, after so many silent steps
 pub record Leaving (d : Description) (bits : List Bool) (i : ℕ) (a : Opened) (w : Walk) (from : Run (Unit {0})) : Type 0 where
   pub is : a ≡ seen (length bits) (slice_index_or w.objects i no_object).opened
-  pub same : from ≡ after_content d bits (slice_index_or w.objects i no_object).opened (around w.objects i) (state w.place (inner_of (slice_index_or w.objects i no_object).inside))
+  pub before : ℕ
+  pub same : from ≡ passed before (after_content d bits (slice_index_or w.objects i no_object).opened (around w.objects i) (state w.place (inner_of (slice_index_or w.objects i no_object).inside)))
   pub fits : AllFit d (around w.objects i)
   pub near : w.place ≤ 2147483647
   pub short : length bits ≤ 2147483647

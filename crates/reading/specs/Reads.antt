@@ -1,5 +1,5 @@
 -- What lies ahead of a reading, and what it hands out next.
-use Rattle.std.specs.Prelude.{◌≡◌, ℕ, suc, Bool, List, Some, None, Ok, Err, Option}
+use Rattle.std.specs.Prelude.{◌≡◌, Bool, List, Some, None, Ok, Err, Option}
 use Rattle.table.specs.Description.{Description, description}
 use Rattle.rules.specs.declared.items.Item.{Item}
 use Rattle.rules.specs.declared.faults.ReadingFault.{ReadingFault}
@@ -23,18 +23,12 @@ Next (pass t) r after = Next t r after
 Next (stop f) r after = (r ≡ Err f) × (after ≡ stop f)
 Next (done u) r after = (r ≡ Ok None) × (after ≡ done tt)
 
--- what lies ahead without the silent steps before it, and how many they are
+-- what lies ahead without the silent steps before it
 unfoldable pub skipped : {A : Type 0} → Run A → Run A
 skipped (out i t) = out i t
 skipped (pass t) = skipped t
 skipped (stop f) = stop f
 skipped (done a) = done a
-
-unfoldable pub passes : {A : Type 0} → Run A → ℕ
-passes (out i t) = 0
-passes (pass t) = suc (passes t)
-passes (stop f) = 0
-passes (done a) = 0
 
 -- by what was handed out
 abbrev pub Told : Run (Unit {0}) → Answer → Run (Unit {0}) → Type 0

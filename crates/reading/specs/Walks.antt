@@ -22,7 +22,8 @@ use Rattle.objects.specs.declared.inside.About.{About}
 use Rattle.objects.specs.Tops.{tops}
 use Rattle.objects.specs.Frames.{frames}
 use Rattle.objects.specs.Ahead.{Fit, fit_prop, object_of, content_run}
-use Rattle.objects.specs.Likewise.{Alike}
+use Rattle.objects.specs.Passed.{passed}
+use Rattle.objects.specs.Likewise.{Alike, reach}
 use Rattle.reading.specs.declared.open_object.Using.{Using}
 use Rattle.reading.specs.declared.open_object.Opened.{Opened}
 use Rattle.reading.specs.declared.open_object.OpenObject.{OpenObject}
@@ -105,21 +106,26 @@ pub sound_prop : (d : Description) (w : Walk) → IsProp (Sound d w)
 unfolding Sound
 sound_prop d w = ×_prop (all_fit_prop d (objects_of w)) le_prop
 
+-- `before` silent steps are taken before what a step hands out, or does last
 module _ (d : Description) (bits : List Bool) where
   pub record Quietly (from : Run (Unit {0})) (w : Walk) : Type 0 where
-    pub same : from ≡ pass (walk_ahead d bits w)
+    pub before : ℕ
+    pub same : from ≡ passed before (pass (walk_ahead d bits w))
     pub sound : Sound d w
 
   pub record Gives (from : Run (Unit {0})) (i : Item) (w : Walk) : Type 0 where
-    pub same : from ≡ out i (walk_ahead d bits w)
+    pub before : ℕ
+    pub same : from ≡ passed before (out i (walk_ahead d bits w))
     pub sound : Sound d w
 
   pub record Refuses (from : Run (Unit {0})) (f : ReadingFault) (w : Walk) : Type 0 where
-    pub same : from ≡ stop f
+    pub before : ℕ
+    pub same : from ≡ passed before (stop f)
     pub sound : Sound d w
 
   pub record Ends (from : Run (Unit {0})) (w : Walk) : Type 0 where
-    pub same : from ≡ done tt
+    pub before : ℕ
+    pub same : from ≡ passed before (done tt)
     pub still : walk_ahead d bits w ≡ done tt
     pub sound : Sound d w
 
@@ -138,18 +144,25 @@ module _ (d : Description) (bits : List Bool) where
 abbrev pub from_of : Walk → ℕ
 from_of w = cond w.started w.place 0
 
--- how far a step that hands out an item looks: of a value up to its end, else up to where the reading then stands
+-- how far the bits of an item and those passed over reach: of a value up to its end, else up to where the reading
+-- then stands
 abbrev pub looked_to : Kind → (place length after : ℕ) → ℕ
 looked_to Value place length after = place + length
 looked_to Open place length after = after
 looked_to Close place length after = after
 
+-- how far a step from p that hands out an item looks at bits: a close looks at none
+abbrev pub sight : Kind → (p place length after : ℕ) → ℕ
+sight Value p place length after = min (place + length) (p + reach)
+sight Open p place length after = min after (p + reach)
+sight Close p place length after = p
+
 -- the bits over which a step from p does as it did: what it looked at is the same
 abbrev pub Likewise : (bits B : List Bool) → (p : ℕ) → Option Answer → Walk → Type 0
-Likewise bits B p None w = Alike bits B p w.place
-Likewise bits B p (Some (Ok (Some i))) w = Alike bits B p (looked_to i.kind i.place i.length w.place)
-Likewise bits B p (Some (Ok None)) w = B ≡ bits
-Likewise bits B p (Some (Err f)) w = B ≡ bits
+Likewise bits B p None w = Alike bits B p (min w.place (p + reach))
+Likewise bits B p (Some (Ok (Some i))) w = Alike bits B p (sight i.kind p i.place i.length w.place)
+Likewise bits B p (Some (Ok None)) w = Alike bits B p (p + reach)
+Likewise bits B p (Some (Err f)) w = Alike bits B p (p + reach)
 
 -- a place lies in the innermost window, and each window in the one around it, the outermost in L bits
 abbrev pub Enclosed : (L : ℕ) → List OpenObject → (p : ℕ) → Type 0

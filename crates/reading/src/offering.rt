@@ -4,7 +4,7 @@ ghost use Rattle.table.specs.Description.{Description, description};
 ghost use Rattle.objects.specs.Ahead.{Readable};
 ghost use Rattle.reading.specs.Offers.{Advanced, Resumes, Offered, saved_of, Over};
 ghost use Rattle.reading.specs.Pushes.{Kept};
-ghost use Rattle.reading.specs.Walks.{Sound, EnclosedWalk};
+ghost use Rattle.reading.specs.Walks.{Sound, EnclosedWalk, from_of};
 
 use crate::open_object::OpenObject;
 use crate::walk::{Answer, MOST, Walk};
@@ -94,6 +94,13 @@ impl Walk {
         }
         self.restore(saved);
         false
+    }
+
+    // Where the walk takes its next bits.
+    pub fn place(&self) -> u32
+        ensures { result ≡ from_of self.now }
+    {
+        if self.started { self.place } else { 0 }
     }
 
     // Whether all objects are closed.

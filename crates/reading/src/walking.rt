@@ -6,9 +6,10 @@ ghost use Rattle.rules.specs.Order.{declared_at};
 ghost use Rattle.rules.specs.Trace.{Run};
 ghost use Rattle.rules.specs.Reading.{open_item, close_item, inner as inner_window, reading};
 ghost use Rattle.rules.specs.Steps.{header as header_at};
-ghost use Rattle.objects.specs.Ahead.{Readable};
+ghost use Rattle.objects.specs.Ahead.{Readable, inner_of};
+ghost use Rattle.objects.specs.Starts.{Begun};
 ghost use Rattle.reading.specs.Walks.{by_none, objects_of, cut, walk_ahead, Sound, Enclosed, Walked, Begins, Stepped};
-ghost use Rattle.reading.specs.Pushes.{Pushed, Leaving, Kept, Leaves};
+ghost use Rattle.reading.specs.Pushes.{Entered, Leaving, Kept, Leaves};
 
 use crate::ending::at_end;
 use crate::lookups::object_class;
@@ -113,6 +114,18 @@ fn close_item(opened: Opened, place: u32) -> Item
     }
 }
 
+impl OpenObject {
+    // Becomes an object at its beginning.
+    fn begin(&mut self, tables: &Loaded, opened: Opened)
+        requires { Readable (description tables.now) }
+        ensures is { self.new.opened ≡ opened }
+        ensures begun { Begun (description tables.now) opened.about.class (inner_of self.new.inside) }
+    {
+        self.opened = opened;
+        self.inside.begin(tables, opened.about.class);
+    }
+}
+
 // That the description is readable is a field of `Reading` and of `Scene`; the steps between hand it on as a
 // `requires`, for a wrapper of the tables would be taken off again at each look-up. That the walk is sound by the
 // description is a field of `Reading` too, which alone has both: a struct that lends them together would be a second
@@ -148,12 +161,13 @@ impl Walk {
         }
     }
 
-    // Opens an object inside the others.
-    fn push(&mut self, object: OpenObject, place: u32)
-        requires { length (objects_of self.old) < 16 }
-        ensures { Pushed object place self.old self.new }
+    // Opens an object inside the others, in the place that it takes in the table.
+    fn push(&mut self, tables: &Loaded, opened: Opened, place: u32)
+        requires room { length (objects_of self.old) < 16 }
+        requires readable { Readable (description tables.now) }
+        ensures { Entered (description tables.now) opened place self.old self.new }
     {
-        self.objects[self.depth] = object;
+        self.objects[self.depth].begin(tables, opened);
         self.depth += 1;
         self.place = place;
         self.started = true;
@@ -191,11 +205,7 @@ impl Walk {
             greatest,
             used,
         };
-        let object = OpenObject {
-            opened,
-            inside: Inside::begun(tables, class),
-        };
-        self.push(object, header.after);
+        self.push(tables, opened, header.after);
         Ok(Some(open_item(class, used, header)))
     }
 
@@ -252,7 +262,7 @@ impl Walk {
     }
 
     // One step of the reading; nothing is handed out where it answers none.
-    pub(crate) fn step<S: Source>(&mut self, source: &S, tables: &Loaded) -> Option<Answer>
+    pub fn step<S: Source>(&mut self, source: &S, tables: &Loaded) -> Option<Answer>
         requires sound { Sound (description tables.now) self.old }
         requires readable { Readable (description tables.now) }
         ensures moved { Stepped (description tables.now) (S.bits source.now) self.old result self.new }

@@ -1,3 +1,6 @@
+ghost use Rattle.std.specs.Prelude.{Some};
+ghost use Rattle.records.specs.Texts.{counts_text, fault_text};
+
 use crate::counts::Counts;
 use crate::faults::{Cause, Fault};
 use std::fmt;
@@ -10,6 +13,8 @@ impl fmt::Display for Cause {
 
 // Seven numbers, in the order of the file.
 impl fmt::Display for Counts {
+    ghost output = { λ c. Some (counts_text c) };
+
     fn fmt<W: fmt::Write>(&self, f: &mut fmt::Formatter<W>) -> fmt::Result {
         write!(
             f,
@@ -21,6 +26,8 @@ impl fmt::Display for Counts {
 
 // Three numbers: cause, table, record.
 impl fmt::Display for Fault {
+    ghost output = { λ f. Some (fault_text f) };
+
     fn fmt<W: fmt::Write>(&self, f: &mut fmt::Formatter<W>) -> fmt::Result {
         write!(
             f,

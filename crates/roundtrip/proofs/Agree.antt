@@ -16,13 +16,13 @@ use Rattle.roundtrip.specs.Least.{Agree, Least, Looks}
 use Rattle.roundtrip.proofs.Again.{then_to, lowest_finds}
 use Rattle.roundtrip.proofs.Sizes.{size_read}
 
-by_bits : (B C : List Bool) (w : Window) (to p : ℕ) → part B p (next_multiple to p - p) ≡ part C p (next_multiple to p - p) → aligned B w to p ≡ aligned C w to p
+pub by_bits : (B C : List Bool) (w : Window) (to p : ℕ) → part B p (next_multiple to p - p) ≡ part C p (next_multiple to p - p) → aligned B w to p ≡ aligned C w to p
 unfolding aligned
 by_bits B C w to p e =
     ap (λ l. then (enough w p (next_multiple to p - p)) λ _. then (ensure (eqb (number l) 0) SkippedBits) λ _. Ok (next_multiple to p)) e
 
 module _ (B C : List Bool) (same_length : length B ≡ length C) where
-  part_agree : (n p : ℕ) → Agree B C p (p + n) → part B p n ≡ part C p n
+  pub part_agree : (n p : ℕ) → Agree B C p (p + n) → part B p n ≡ part C p n
   part_agree zero p a = refl
   part_agree (suc n) p a =
       decide (ltb p (length B))

@@ -11,3 +11,4 @@ pub mod Neatly
 pub mod Bridge
 pub mod Agree
 pub mod Trials
+pub mod Reach

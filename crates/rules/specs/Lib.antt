@@ -13,3 +13,4 @@ pub mod Passed
 pub mod Growth
 pub mod Ranks
 pub mod Order
+pub mod Texts

@@ -1,10 +1,15 @@
 // How items and faults are printed.
+ghost use Rattle.std.specs.Prelude.{Some};
+ghost use Rattle.rules.specs.Texts.{item_text, reading_fault_text};
+
 use crate::faults::{ReadingCause, ReadingFault};
 use crate::items::Item;
 use std::fmt;
 
 // Seven numbers: kind, line, class, index, value, place, length.
 impl fmt::Display for Item {
+    ghost output = { λ i. Some (item_text i) };
+
     fn fmt<W: fmt::Write>(&self, f: &mut fmt::Formatter<W>) -> fmt::Result {
         write!(
             f,
@@ -22,6 +27,8 @@ impl fmt::Display for Item {
 
 // Four numbers: cause, line, node, place.
 impl fmt::Display for ReadingFault {
+    ghost output = { λ f. Some (reading_fault_text f) };
+
     fn fmt<W: fmt::Write>(&self, f: &mut fmt::Formatter<W>) -> fmt::Result {
         write!(
             f,

@@ -12,39 +12,16 @@ use Rattle.rules.specs.declared.faults.ReadingCause.TheVariants.{WidthOrCount}
 use Rattle.rules.specs.Checks.{Check, then, ensure, fails}
 use Rattle.rules.specs.Steps.{natural}
 
-natural_in : (most : ℕ) (z : ℤ) → (le_z (pos 0) z && le_z z (pos most)) ≡ true → natural most (Ok z) ≡ Ok (nat_abs z)
+pub natural_in : (most : ℕ) (z : ℤ) → (le_z (pos 0) z && le_z z (pos most)) ≡ true → natural most (Ok z) ≡ Ok (nat_abs z)
 unfolding natural then ensure
 natural_in most z h = rw h
 
-natural_out : (most : ℕ) (z : ℤ) → (le_z (pos 0) z && le_z z (pos most)) ≡ false → natural most (Ok z) ≡ fails WidthOrCount
+pub natural_out : (most : ℕ) (z : ℤ) → (le_z (pos 0) z && le_z z (pos most)) ≡ false → natural most (Ok z) ≡ fails WidthOrCount
 unfolding natural then ensure
 natural_out most z h = rw h
 
 abbrev Failed : Failure
 Failed = record { cause = WidthOrCount; node = 0 }
-
-kept : (b : Bool) (most n : ℕ) {f : Option ℕ} {r : Check ℕ} → b ≡ leb n most → f ≡ then_some b n → r ≡ ok_or f Failed → r ≡ natural most (Ok (pos n))
-kept true most n e p q =
-    let t : (le_z (pos 0) (pos n) && le_z (pos n) (pos most)) ≡ true = grind (arith, ints) in
-    q ∙ ap (λ f. ok_or f Failed) p ∙ sym (natural_in most (pos n) t)
-kept false most n e p q =
-    let t : (le_z (pos 0) (pos n) && le_z (pos n) (pos most)) ≡ false = grind (arith, ints) in
-    q ∙ ap (λ f. ok_or f Failed) p ∙ sym (natural_out most (pos n) t)
-
--- A number that is converted where it has 32 bits, kept where it is at most `most`, and else fails. `Ret` says what the
--- test of the second answers.
-pub tried : {E : Type 0} (most : ℕ) (z : ℤ) (t : Result ℕ E) (f : Option ℕ) {r : Check ℕ} (Ret : ℕ → Bool → Type 0) →
-    ((x : ℕ) (b : Bool) → Ret x b → b ≡ leb x most) → most < 4294967296 → OkIff t (FitsUnsignedBits 32 z) (nat_abs z) →
-    MatchOption (result_ok t) (f ≡ None) (λ x. (b : Bool) × Ret x b × (f ≡ then_some b x)) → r ≡ ok_or f Failed →
-    r ≡ natural most (Ok z)
-tried most (pos n) (Ok x) f Ret test few s m q =
-    kept m.0 most n (test x m.0 m.1 ∙ ap (λ x. leb x most) s.1) (m.2 ∙ ap (then_some m.0) s.1) q
-tried most (pos n) (Err e) f Ret test few s m q =
-    let past : 4294967296 ≤ n = elim (leb_tells 4294967296 n) [ inl t ↦ t.1 | inr t ↦ absurd (s (omega (arith, t.1))) ] in
-    let t : (le_z (pos 0) (pos n) && le_z (pos n) (pos most)) ≡ false = grind (arith, ints) in
-    q ∙ ap (λ f. ok_or f Failed) m ∙ sym (natural_out most (pos n) t)
-tried most (negsuc n) (Ok x) f Ret test few s m q = absurd s.0
-tried most (negsuc n) (Err e) f Ret test few s m q = q ∙ ap (λ f. ok_or f Failed) m ∙ sym (natural_out most (negsuc n) refl)
 
 -- a number that is converted where it has 16 bits, and else fails
 pub counted : {E : Type 0} (z : ℤ) (t : Result ℕ E) {r : Check ℕ} → OkIff t (FitsUnsignedBits 16 z) (nat_abs z) →

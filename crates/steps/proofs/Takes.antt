@@ -1,5 +1,5 @@
 -- What the steps that take bits come to.
-use Rattle.std.proofs.Common.{◌≡◌, ℕ, ◌+◌, ◌-◌, ◌^◌, ◌<◌, ◌≤◌, Bool, true, false, List, length, Ok, Err, Result, sym, ap, ◌∙◌, arith, le-leb}
+use Rattle.std.proofs.Common.{◌≡◌, ℕ, ◌+◌, ◌-◌, ◌^◌, ◌<◌, ◌≤◌, Bool, true, false, List, length, Ok, Err, Result, sym, ap, refl, ◌∙◌, arith, le-leb}
 use Rattle.std.specs.Result.{MatchResult, IsErrAnd, IfOk}
 use Rattle.std.proofs.lemmas.Bool.Decides.{nat_tests}
 use borrow.Author.Tests.{lt-leb}
@@ -53,6 +53,11 @@ zero_told bits p n (Err f) m Gives e k t = grind (arith, nat_tests)
 pub aligned_short : (bits : List Bool) (w : Window) (to p : ℕ) → p ≤ next_multiple to p → w.end < next_multiple to p → aligned bits w to p ≡ Err (ends w)
 unfolding aligned then
 aligned_short bits w to p h k = rw (enough_short w p (next_multiple to p - p) (omega arith))
+
+-- no bits are all 0
+pub none_zero : (bits : List Bool) (p n : ℕ) → n ≡ 0 → all_zero (part bits p n) ≡ true
+unfolding all_zero
+none_zero bits p n e = rw e refl
 
 pub aligned_zero : (bits : List Bool) (w : Window) (to p : ℕ) → p ≤ next_multiple to p → next_multiple to p ≤ w.end → all_zero (part bits p (next_multiple to p - p)) ≡ true → aligned bits w to p ≡ Ok (next_multiple to p)
 unfolding aligned then ensure

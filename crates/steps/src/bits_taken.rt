@@ -34,7 +34,7 @@ pub fn next_multiple(of: u16, p: u32) -> u32
 
 impl<S: Source> View<'_, S> {
     // The number of the next n bits.
-    #[inline]
+    #[inline(always)]
     pub fn taken(&self, n: u32, p: u32) -> Result<u64, Failure>
         requires narrow { n ≤ 32 }
         ensures value { result ≡ taken (S.bits self.now.source.now) self.now.window n p }
@@ -47,6 +47,7 @@ impl<S: Source> View<'_, S> {
     }
 
     // The place after alignment; the skipped bits must be there, and be 0.
+    #[inline(always)]
     pub fn aligned(&self, to: u16, p: u32) -> Result<u32, Failure>
         requires place { p ≤ 2147483647 }
         ensures value { result ≡ aligned (S.bits self.now.source.now) self.now.window to p }
@@ -55,6 +56,9 @@ impl<S: Source> View<'_, S> {
         let q = next_multiple(to, p);
         if q > self.window.end {
             return Err(ends(self.window));
+        }
+        if q == p {
+            return Ok(q);
         }
         if is_zero(self.source, p, q - p).map_err(|_| ends(self.window))? {
             Ok(q)

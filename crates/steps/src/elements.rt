@@ -13,6 +13,7 @@ use rules::steps::Got;
 use values::evaluate::Scope;
 
 // A value must keep to a bound, which is worked out here; node 0 sets none.
+#[inline(always)]
 fn bounded<F: Fn(i64) -> bool>(scope: &Scope, node: u16, keeps: F) -> Result<(), Failure>
     requires { F.IsAlwaysCallable keeps }
     ensures { (kept : ℤ → Bool) → Answers F.post keeps kept → result ≡ bounded node (value_in scope.now node) kept }
@@ -50,6 +51,7 @@ fn place_after(ahead: u16, place: u32, length: u32) -> u32
 
 impl<S: Source> View<'_, S> {
     // One element of a read: alignment, width, bits, lowest, highest; with look-ahead only the alignment is consumed.
+    #[inline(always)]
     pub fn element(&self, scope: &Scope, line: ReadLine, p: u32) -> Result<Got, Failure>
         requires place { p ≤ 2147483647 }
         ensures value { result ≡ element (S.bits self.now.source.now) self.now.window line (value_in scope.now line.width) (value_in scope.now line.lowest) (value_in scope.now line.highest) p }

@@ -17,6 +17,8 @@ fn alignment(greatest: u16) -> u16
 
 impl<S: Source> View<'_, S> {
     // A size of at most `left` bytes after those that give `high`, and the place after it.
+    #[inline(always)]
+    #[cycle(more_size_bytes)]
     fn size_bytes(&self, left: u32, high: u32, p: u32) -> Result<(u32, u32), Failure>
         requires room { (high + 1) * 128 ^ left ≤ 268435456 }
         ensures value { result ≡ size_bytes (S.bits self.now.source.now) self.now.window left high p }
@@ -29,7 +31,18 @@ impl<S: Source> View<'_, S> {
         if byte < 128 {
             return Ok((high * 128 + byte, p + 8));
         }
-        self.size_bytes(left - 1, high * 128 + byte % 128, p + 8)
+        self.more_bytes(left - 1, high * 128 + byte % 128, p + 8)
+    }
+
+    // The same after a first byte. Apart from it, which then stands where it is called: most sizes have one byte.
+    #[inline(never)]
+    #[cycle(more_size_bytes)]
+    fn more_bytes(&self, left: u32, high: u32, p: u32) -> Result<(u32, u32), Failure>
+        requires room { (high + 1) * 128 ^ left ≤ 268435456 }
+        ensures value { result ≡ size_bytes (S.bits self.now.source.now) self.now.window left high p }
+        ensures bound { IfOk result (λ s. (s.0 < 268435456) × (p ≤ s.1) × (s.1 ≤ self.now.window.end)) }
+    {
+        self.size_bytes(left, high, p)
     }
 
     // The size of an object whose greatest size is given, and the place after it.
@@ -53,6 +66,7 @@ impl<S: Source> View<'_, S> {
 
     // The beginning of an object of a declared class: aligned to 8 if expandable, the id in a family, the size if
     // expandable.
+    #[inline(always)]
     pub fn header(&self, declared: Class, greatest: u16, p: u32) -> Result<Header, Failure>
         requires place { p ≤ 2147483647 }
         requires width { declared.width ≤ 16 }

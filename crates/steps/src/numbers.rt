@@ -8,10 +8,11 @@ pub fn natural(most: u32, value: i64) -> Result<u32, Failure>
     ensures value { result ≡ natural most (Ok value) }
     ensures bound { IfOk result (λ n. n ≤ most) }
 {
-    u32::try_from(value)
-        .ok()
-        .filter(|n| *n <= most)
-        .ok_or(ReadingCause::WidthOrCount.into())
+    if (0..=i64::from(most)).contains(&value) {
+        Ok(value as u32)
+    } else {
+        Err(ReadingCause::WidthOrCount.into())
+    }
 }
 
 // A number of n bits as a signed one, in two's complement.

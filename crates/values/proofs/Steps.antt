@@ -39,10 +39,14 @@ module _ (nodes : List Node) (size : ℕ) (names : Names) (k : ℕ) where
   unfolding term_value
   at_none e = at_term None e
 
-  module _ (o : Operator) (left right : ℕ) (e : Some (Apply o left right) ≡ node_term) where
-    at_apply : (then (before k (value nodes size names) left) λ x. then (before k (value nodes size names) right) λ y. of_node k (applied o x y)) ≡ result
+  -- what comes of an operator on two nodes
+  abbrev both : Operator → (left right : ℕ) → Check ℤ
+  both o left right = then (before k (value nodes size names) left) λ x. then (before k (value nodes size names) right) λ y. of_node k (applied o x y)
+
+  module _ (o : Operator) (left right : ℕ) where
+    pub at_apply : Some (Apply o left right) ≡ node_term → both o left right ≡ result
     unfolding term_value
-    at_apply = at_term (Some (Apply o left right)) e
+    at_apply e = at_term (Some (Apply o left right)) e
 
     missing : (j : ℕ) → k ≤ j → before k (value nodes size names) j ≡ fails Unchecked
     missing j h = ap (λ b. pick b (λ _. value nodes size names j) (λ _. fails Unchecked)) (le-ltb j k h)
@@ -50,23 +54,23 @@ module _ (nodes : List Node) (size : ℕ) (names : Names) (k : ℕ) where
     present : (j : ℕ) → j < k → before k (value nodes size names) j ≡ value nodes size names j
     present j h = ap (λ b. pick b (λ _. value nodes size names j) (λ _. fails Unchecked)) (lt-ltb j k h)
 
-    pub left_missing : k ≤ left → fails Unchecked ≡ result
+    pub left_missing : k ≤ left → fails Unchecked ≡ both o left right
     unfolding then
-    left_missing h = sym (ap (λ (m : Check ℤ). then m λ x. then (before k (value nodes size names) right) λ y. of_node k (applied o x y)) (missing left h)) ∙ at_apply
+    left_missing h = sym (ap (λ (m : Check ℤ). then m λ x. then (before k (value nodes size names) right) λ y. of_node k (applied o x y)) (missing left h))
 
-    pub left_fails : left < k → {f : Failure} → Err f ≡ value nodes size names left → Err f ≡ result
+    pub left_fails : left < k → {f : Failure} → Err f ≡ value nodes size names left → Err f ≡ both o left right
     unfolding then
-    left_fails h p = ap (λ (m : Check ℤ). then m λ x. then (before k (value nodes size names) right) λ y. of_node k (applied o x y)) (p ∙ sym (present left h)) ∙ at_apply
+    left_fails h p = ap (λ (m : Check ℤ). then m λ x. then (before k (value nodes size names) right) λ y. of_node k (applied o x y)) (p ∙ sym (present left h))
 
     after_left : left < k → {x : ℤ} → Ok x ≡ value nodes size names left →
-        (then (before k (value nodes size names) right) λ y. of_node k (applied o x y)) ≡ result
+        (then (before k (value nodes size names) right) λ y. of_node k (applied o x y)) ≡ both o left right
     unfolding then
-    after_left h p = ap (λ (m : Check ℤ). then m λ x. then (before k (value nodes size names) right) λ y. of_node k (applied o x y)) (p ∙ sym (present left h)) ∙ at_apply
+    after_left h p = ap (λ (m : Check ℤ). then m λ x. then (before k (value nodes size names) right) λ y. of_node k (applied o x y)) (p ∙ sym (present left h))
 
-    pub right_missing : left < k → {x : ℤ} → Ok x ≡ value nodes size names left → k ≤ right → fails Unchecked ≡ result
+    pub right_missing : left < k → {x : ℤ} → Ok x ≡ value nodes size names left → k ≤ right → fails Unchecked ≡ both o left right
     unfolding then
     right_missing h {x} p q = sym (ap (λ (m : Check ℤ). then m λ y. of_node k (applied o x y)) (missing right q)) ∙ after_left h p
 
     pub both_come : left < k → {x : ℤ} → Ok x ≡ value nodes size names left → right < k → {m : Check ℤ} → m ≡ value nodes size names right →
-        (then m λ y. of_node k (applied o x y)) ≡ result
+        (then m λ y. of_node k (applied o x y)) ≡ both o left right
     both_come h {x} p l q = ap (λ (m : Check ℤ). then m λ y. of_node k (applied o x y)) (q ∙ sym (present right l)) ∙ after_left h p

@@ -4,12 +4,12 @@ ghost use Rattle.std.specs.Option.{option_copied, unwrap_or};
 ghost use Rattle.table.specs.Description.{entry, no_node};
 ghost use Rattle.rules.specs.Terms.{term};
 ghost use Rattle.values.specs.Names.{named_by};
-ghost use Rattle.values.specs.Scopes.{value_in};
+ghost use Rattle.values.specs.Scopes.{value_in, applied_in};
 
 use crate::operators::apply;
 use records::records::Node;
 use rules::faults::{Failure, ReadingCause};
-use rules::terms::Term;
+use rules::terms::{Operator, Term};
 use table::record::numbered;
 
 // The value of name number n, 0 where there is none.
@@ -36,6 +36,8 @@ impl Scope<'_> {
     }
 
     // The value of node number k, or the failure of the first node that fails.
+    #[inline(always)]
+    #[cycle(applied_value)]
     pub fn value(&self, k: u16) -> Result<i64, Failure>
         ensures { result ≡ value_in self.now k }
     {
@@ -47,17 +49,25 @@ impl Scope<'_> {
                 operator,
                 left,
                 right,
-            } => {
-                if left >= k {
-                    return Err(ReadingCause::Unchecked.into());
-                }
-                let x = self.value(left)?;
-                if right >= k {
-                    return Err(ReadingCause::Unchecked.into());
-                }
-                let y = self.value(right)?;
-                apply(operator, x, y).map_err(|cause| Failure { cause, node: k })
-            }
+            } => self.applied(k, operator, left, right),
         }
+    }
+
+    // What the operator of node number k gives of two nodes before it, or the failure of the first node that fails. Apart
+    // from `value`, which then is so short that it stands where it is called.
+    #[inline(never)]
+    #[cycle(applied_value)]
+    fn applied(&self, k: u16, operator: Operator, left: u16, right: u16) -> Result<i64, Failure>
+        ensures { result ≡ applied_in self.now k operator left right }
+    {
+        if left >= k {
+            return Err(ReadingCause::Unchecked.into());
+        }
+        let x = self.value(left)?;
+        if right >= k {
+            return Err(ReadingCause::Unchecked.into());
+        }
+        let y = self.value(right)?;
+        apply(operator, x, y).map_err(|cause| Failure { cause, node: k })
     }
 }

@@ -16,11 +16,11 @@ use Rattle.roundtrip.specs.Standing.{Fam, Stands}
 use Rattle.roundtrip.specs.Writing.{Straight}
 use Rattle.records.specs.declared.statements.Statement.TheVariants.{Read, Use}
 use Rattle.roundtrip.proofs.Lines.{tells_at}
-use Rattle.roundtrip.proofs.Heads.{stands_bind, stands_same}
+use Rattle.roundtrip.proofs.Heads.{stands_bind, stands_pass, stands_same}
 use Rattle.rules.proofs.Facts.{place_of}
 use Rattle.roundtrip.proofs.Lifted.{stands_step, stands_elements, stands_objects, stands_to_end, stands_rounds, stands_stretch, stands_extensions, stands_object, stands_end, stands_reading}
 use Rattle.objects.specs.declared.frame.Frame.{Frame}
-use Rattle.objects.specs.declared.frame.Frame.TheVariants.{Lines, Rounds, Elements, Counted, Uncounted}
+use Rattle.objects.specs.declared.frame.Frame.TheVariants.{Lines, After, Rounds, Elements, Counted, Uncounted}
 use Rattle.objects.specs.Ahead.{Lined, Fit, frame_run, content_run, object_of}
 use Rattle.objects.specs.Frames.{frames}
 use Rattle.reading.specs.declared.open_object.OpenObject.{OpenObject}
@@ -50,6 +50,7 @@ module _ (d : Description) (L : ℕ) where
           Stands d L place_of o.window.end s.place (λ B. frame_run d B (object d B n) o f s)
       unfolding frame_run statement_at
       stands_frame (Lines at count) ok s h = stands_stretch d L o inside (λ B. object d B n) plain st at count s h
+      stands_frame (After at count) ok s h = stands_pass d L (stands_stretch d L o inside (λ B. object d B n) plain st at count s h)
       stands_frame (Rounds line node count left) ok s h =
           stands_rounds d L o inside (λ B. object d B n) plain (λ t. valued d [] o t node) (λ B. run d B (object d B n) o (code d.lines (suc line) count)) line
           (λ t m. stands_stretch d L o inside (λ B. object d B n) plain st (suc line) count t m) left s h

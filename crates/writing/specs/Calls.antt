@@ -33,9 +33,9 @@ pub record Opened (d : Description) (bits : ℕ) (w : Writing) : Type 0 where
   pub written : w.written ≡ 0
   pub ahead : (B : List Bool) → ahead_of w B ≡ reading d B
 
--- opening: refused by number, with the description handed back, or a writing
+-- opening: refused by number, with the description handed back, or a writing, and the duty to end one of that length
 abbrev pub OpenCalled : Checked → (bits : ℕ) → Result (Writing × Duty) Unopened → Type 0
-OpenCalled checked bits (Ok x) = (open_refusal (description checked.loaded) bits ≡ None) × Opened (description checked.loaded) bits x.0
+OpenCalled checked bits (Ok x) = (open_refusal (description checked.loaded) bits ≡ None) × Opened (description checked.loaded) bits x.0 × (x.1.total ≡ bits)
 OpenCalled checked bits (Err u) = (open_refusal (description checked.loaded) bits ≡ Some u.refusal) × (u.checked ≡ checked)
 
 -- some bits of the stream's length make a reading hand out this item next, after what is written: no class 0, and

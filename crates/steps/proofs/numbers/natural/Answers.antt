@@ -1,12 +1,15 @@
-use Rattle.std.proofs.Common.{rules, ap, ◌∙◌, arith, to_z-of_z}
-use Rattle.std.specs.Option.{ok_or}
-use Rattle.steps.proofs.Naturals.{tried}
+use Rattle.std.proofs.Common.{rules, ◌≡◌, true, false, ◌&&◌, ℤ, pos, nat_abs, Ok, Err, sym, ap, ◌∙◌, to_z-of_z, w64, SFits}
+use lib.Signed.{le_z}
+use Rattle.steps.proofs.Naturals.{natural_in, natural_out}
 use Rattle.steps.proofs.numbers.natural.Goals as goal
 
-pub returns-clause-value : goal.returns-clause-value
-returns-clause-value c =
-    let t = simp (to_z-of_z c.ranges.value) at c.try_from.ensures in
-    let f = c.ranges.most in
-    tried c.args.most c.args.value c.try_from.result c.filter.result _ (λ x b q. search rules) (omega arith) t
-    (simp c.ok.ensures.value at c.filter.ensures)
-    (c.ok_or.ensures.value ∙ ap (λ e. ok_or c.filter.result e) c.into.ensures)
+pub returns-then-contains-clause-value : goal.returns-then-contains-clause-value
+returns-then-contains-clause-value c =
+    let f : SFits w64 c.args.value = search rules in
+    let within : (le_z (pos 0) c.args.value && le_z c.args.value (pos c.args.most)) ≡ true = search rules in
+    ap (λ (z : ℤ). Ok (nat_abs z)) (to_z-of_z f) ∙ sym (natural_in c.args.most c.args.value within)
+
+pub returns-else-contains-clause-value : goal.returns-else-contains-clause-value
+returns-else-contains-clause-value c =
+    let without : (le_z (pos 0) c.args.value && le_z c.args.value (pos c.args.most)) ≡ false = search rules in
+    ap Err c.into.ensures ∙ sym (natural_out c.args.most c.args.value without)

@@ -34,8 +34,8 @@ returns-then-rest-reach g c =
     rw (c.BITS.ensures, c.BITS-2.ensures, c.BITS-then-rest-reach.ensures) at c.read.ensures in
     got_units w value xs p n (64 / w) c.read.result at.0 at.1 within (read ∙ ap (λ t. number (part (units_bits w value t) (p % w) n)) (take-take (64 / w) (length xs - first) (drop first xs) (omega arith)))
 
-pub read-requires-2-clause-inside : goal.read-requires-2-clause-inside
-read-requires-2-clause-inside g c =
+pub read_last-requires-clause-inside : goal.read_last-requires-clause-inside
+read_last-requires-clause-inside g c =
     let xs = c.args.self.now.units.now in
     let w = g.U.Unit.BITS in
     let value = g.U.Unit.value in
@@ -55,4 +55,4 @@ returns g c =
     let n = c.args.n in
     let at = placed_in w g.U.Unit.value xs c.from.result c.args.p c.args.n c.in_ok-check_place.field-0 (c.from.ensures ∙ c.length.ensures) c.in_ok-check_place.ensures in
     let first = first_within w p n (length xs) at.1 in
-    got_units w value xs p n (length xs - p / w) c.read-2.result at.0 at.1 (rest_within w p n (length xs) first at.1) (rw (c.BITS.ensures, c.BITS-3.ensures) at c.read-2.ensures)
+    got_units w value xs p n (length xs - p / w) c.read_last.result at.0 at.1 (rest_within w p n (length xs) first at.1) (rw (c.BITS.ensures, c.BITS-3.ensures) at c.read_last.ensures)

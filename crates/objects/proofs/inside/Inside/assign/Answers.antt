@@ -20,6 +20,7 @@ returns g c =
       moved = λ B l.
           quietly_at (same-inner (c.push.ensures ∙ ap (λ (f : Frame). f ∷ frames c.args.self.now.frames) c.lines_after.ensures) (simp to_z-of_z at c.write.ensures))
           (record {
+            before = 0;
             same = assign_run d B (object_of c.args.scene.now.about) (inner_of c.args.self.now) c.args.scene.now.place c.args.at.line c.args.at.after c.args.name c.args.node c.in_ok-value.value (tried_ok c.args.at.line c.args.scene.now.place c.value.result _ c.in_ok-value.ensures ∙ c.value.ensures);
             fit = assign_room d B (object_of c.args.scene.now.about) (inner_of c.args.self.now) c.args.scene.now.place c.args.at.line c.args.at.after c.args.name c.args.node c.requires.room;
             near = c.args.scene.now.near;
@@ -35,6 +36,7 @@ returns-in_err-value g c =
     rw (p.1, p.2) (record {
       moved = λ B l.
           record {
+            before = 0;
             same = λ obj. assign_fails (description c.args.scene.now.tables.now) B (object_of c.args.scene.now.about) (inner_of c.args.self.now) c.args.scene.now.place c.args.at.line c.args.at.after c.args.name c.args.node t.0 (t.1 ∙ c.value.ensures) obj ∙ ap stop t.2;
             fit = c.requires.room.fit;
           };

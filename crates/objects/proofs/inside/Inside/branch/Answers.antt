@@ -33,6 +33,7 @@ returns g c =
             | then-is_zero w ↦
                 quietly_at (same-inner (c.push_both.ensures ∙ ap (λ (f : Frame). f ∷ Lines (at + c.min-m.result + c.min-n.result) (c.args.at.after - c.min-m.result - c.min-n.result) ∷ fs) w.block-is ∙ (λ i. Lines (at + m i) (n i) ∷ Lines (at + m i + n i) (c.args.at.after - m i - n i) ∷ fs)) refl)
                 (record {
+                  before = 0;
                   same = branch_second (description c.args.scene.now.tables.now) B (object_of c.args.scene.now.about) (inner_of c.args.self.now) c.args.scene.now.place c.args.at.line c.args.at.after c.args.node c.args.first c.args.second c.in_ok-value.value worked (sym (simp to_z-of_z at c.is_zero.ensures) ∙ w.if-is_zero.true);
                   fit = second_room (description c.args.scene.now.tables.now) B (object_of c.args.scene.now.about) (inner_of c.args.self.now) c.args.scene.now.place c.args.at.line c.args.at.after c.args.node c.args.first c.args.second c.requires.room;
                   near = c.args.scene.now.near;
@@ -40,6 +41,7 @@ returns g c =
             | else-is_zero w ↦
                 quietly_at (same-inner (c.push_both.ensures ∙ ap (λ (f : Frame). f ∷ Lines (at + c.min-m.result + c.min-n.result) (c.args.at.after - c.min-m.result - c.min-n.result) ∷ fs) w.block-is ∙ (λ i. Lines at (m i) ∷ Lines (at + m i + n i) (c.args.at.after - m i - n i) ∷ fs)) refl)
                 (record {
+                  before = 0;
                   same = branch_first (description c.args.scene.now.tables.now) B (object_of c.args.scene.now.about) (inner_of c.args.self.now) c.args.scene.now.place c.args.at.line c.args.at.after c.args.node c.args.first c.args.second c.in_ok-value.value worked (sym (simp to_z-of_z at c.is_zero.ensures) ∙ w.if-is_zero.false);
                   fit = first_room (description c.args.scene.now.tables.now) B (object_of c.args.scene.now.about) (inner_of c.args.self.now) c.args.scene.now.place c.args.at.line c.args.at.after c.args.node c.args.first c.args.second c.requires.room;
                   near = c.args.scene.now.near;
@@ -56,6 +58,7 @@ returns-in_err-value g c =
     rw (p.1, p.2) (record {
       moved = λ B l.
           record {
+            before = 0;
             same = λ obj. branch_fails (description c.args.scene.now.tables.now) B (object_of c.args.scene.now.about) (inner_of c.args.self.now) c.args.scene.now.place c.args.at.line c.args.at.after c.args.node c.args.first c.args.second t.0 (t.1 ∙ c.value.ensures) obj ∙ ap stop t.2;
             fit = c.requires.room.fit;
           };

@@ -6,7 +6,7 @@ use Rattle.objects.specs.declared.frame.Frame.{Frame}
 use Rattle.objects.specs.declared.frame.Frame.TheVariants.{Lines}
 use Rattle.objects.specs.Ahead.{inner_of, object_of}
 use Rattle.rules.specs.Steps.{aligned}
-use Rattle.objects.proofs.Alikes.{aligned_alike}
+use Rattle.objects.proofs.Alikes.{aligned_alike, aligned_refused}
 use Rattle.objects.proofs.FrameRuns.{no_extension_left, other_extension, extension_fails, extensions_end, extension_begins, extension_room}
 use Rattle.objects.proofs.Tries.{tried_ok, tried_err}
 use Rattle.objects.proofs.Sames.{same-inner, quietly_at}
@@ -27,6 +27,7 @@ returns-then-i-count g c =
     record {
       moved = λ B l.
           record {
+            before = 0;
             same = no_extension_left d B (object_of c.args.scene.now.about) (inner_of c.args.self.now) c.args.scene.now.place c.requires (subst (λ (es : List Extension). length es ≤ c.args.self.now.extension) v c.if-i-count.true);
             fit = none_fit d _ c.requires;
           };
@@ -44,6 +45,7 @@ returns-then-extension-scene g c =
       moved = λ B l.
           quietly_at (same-inner c.requires refl)
           (record {
+            before = 0;
             same = other_extension d B (object_of c.args.scene.now.about) (inner_of c.args.self.now) c.args.scene.now.place c.requires c.record_at-extension.result is some other;
             fit = none_fit d [] refl;
             near = c.args.scene.now.near;
@@ -65,7 +67,8 @@ returns-then-q-scene g c =
       moved = λ B l.
           quietly_at (same-inner c.requires refl)
           (record {
-            same = extensions_end d B (object_of c.args.scene.now.about) (inner_of c.args.self.now) c.args.scene.now.place c.requires c.record_at-extension.result is some own c.in_ok-q.q (aligned_alike (g.S.Source.bits c.args.scene.now.source.now) B c.args.scene.now.about.window c.args.scene.now.place 8 c.in_ok-q.q l (q ∙ c.aligned.ensures.value)) last (length c.deref-table.result.now) (subst (λ (es : List Extension). length d.extensions ≤ length es) (sym v) (omega arith));
+            before = 0;
+            same = extensions_end d B (object_of c.args.scene.now.about) (inner_of c.args.self.now) c.args.scene.now.place c.requires c.record_at-extension.result is some own c.in_ok-q.q (aligned_alike (g.S.Source.bits c.args.scene.now.source.now) B c.args.scene.now.about.window c.args.scene.now.place 8 c.in_ok-q.q (omega arith) l (q ∙ c.aligned.ensures.value)) last (length c.deref-table.result.now) (subst (λ (es : List Extension). length d.extensions ≤ length es) (sym v) (omega arith));
             fit = none_fit d [] refl;
             near = omega (arith, went.1, c.args.scene.now.within, g.S.Source.short c.args.scene.now.source.now);
           });
@@ -87,7 +90,8 @@ returns-else-q-scene g c =
       moved = λ B l.
           quietly_at (same-inner (c.push.ensures ∙ λ i. lines i ∷ c.requires i) refl)
           (record {
-            same = extension_begins d B (object_of c.args.scene.now.about) (inner_of c.args.self.now) c.args.scene.now.place c.requires c.record_at-extension.result is some own c.in_ok-q.q (aligned_alike (g.S.Source.bits c.args.scene.now.source.now) B c.args.scene.now.about.window c.args.scene.now.place 8 c.in_ok-q.q l (q ∙ c.aligned.ensures.value)) more;
+            before = 0;
+            same = extension_begins d B (object_of c.args.scene.now.about) (inner_of c.args.self.now) c.args.scene.now.place c.requires c.record_at-extension.result is some own c.in_ok-q.q (aligned_alike (g.S.Source.bits c.args.scene.now.source.now) B c.args.scene.now.about.window c.args.scene.now.place 8 c.in_ok-q.q (omega arith) l (q ∙ c.aligned.ensures.value)) more;
             fit = extension_room d B (object_of c.args.scene.now.about) (inner_of c.args.self.now) c.args.scene.now.place c.requires c.record_at-extension.result is some c.args.scene.now.readable;
             near = omega (arith, went.1, c.args.scene.now.within, g.S.Source.short c.args.scene.now.source.now);
           });
@@ -106,7 +110,8 @@ returns-in_err-q g c =
     rw (p.1, p.2) (record {
       moved = λ B l.
           record {
-            same = λ obj. extension_fails (description c.args.scene.now.tables.now) B (object_of c.args.scene.now.about) (inner_of c.args.self.now) c.args.scene.now.place c.requires c.record_at-extension.result is some own t.0 (t.1 ∙ c.aligned.ensures.value ∙ ap (λ (x : List Bool). aligned x c.args.scene.now.about.window 8 c.args.scene.now.place) (sym l)) obj ∙ ap stop t.2;
+            before = 0;
+            same = λ obj. extension_fails (description c.args.scene.now.tables.now) B (object_of c.args.scene.now.about) (inner_of c.args.self.now) c.args.scene.now.place c.requires c.record_at-extension.result is some own t.0 (t.1 ∙ c.aligned.ensures.value ∙ aligned_refused (g.S.Source.bits c.args.scene.now.source.now) B c.args.scene.now.about.window c.args.scene.now.place 8 (omega arith) l) obj ∙ ap stop t.2;
             fit = none_fit d _ c.requires;
           };
       bound = λ h. tt;

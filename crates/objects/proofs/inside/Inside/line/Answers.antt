@@ -32,6 +32,7 @@ returns-in-None g c =
     record {
       moved = λ B l.
           record {
+            before = 0;
             same = λ obj. lines_run d c.args.at c.args.count finish n B o i c.args.scene.now.place obj ∙ finish_run d B o i c.args.scene.now.place obj;
             fit = fit_under d _ _ c.requires;
             near = c.args.scene.now.near;

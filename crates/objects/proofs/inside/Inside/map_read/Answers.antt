@@ -13,9 +13,10 @@ use Rattle.objects.specs.declared.frame.Frame.{Frame}
 use Rattle.objects.specs.declared.frame.Frame.TheVariants.{Lines}
 use Rattle.objects.specs.Frames.{frames}
 use Rattle.objects.specs.Ahead.{inner_of, object_of, inner_run, onto, with_names}
-use Rattle.objects.proofs.Alikes.{mapped_alike, alike_as, took_as}
+use Rattle.objects.proofs.Alikes.{mapped_alike, mapped_refused, alike_as, took_as}
 use Rattle.objects.proofs.Owns.{map_ends}
 use Rattle.objects.proofs.LineRuns.{map_fails, map_run, map_room}
+use Rattle.objects.specs.Likewise.{reach}
 use Rattle.objects.proofs.Tries.{tried_ok, tried_err}
 use Rattle.objects.proofs.Sames.{same-inner, gives_at}
 use Rattle.objects.proofs.inside.Inside.map_read.Goals as goal
@@ -34,7 +35,8 @@ returns g c =
       moved = λ B l.
           gives_at (same-inner (c.push.ensures ∙ ap (λ (f : Frame). f ∷ frames c.args.self.now.frames) c.lines_after.ensures) (simp to_z-of_z at c.write.ensures))
           (record {
-            same = λ obj. map_run d B o i c.args.scene.now.place c.args.at.line c.args.at.after c.args.map c.args.name c.in_ok-got.got (mapped_alike bits B o.window c.args.scene.now.place (map_at d c.args.map).width (map_output d c.args.map) c.in_ok-got.got took.most (alike_as c.value_item.ensures l) (got ∙ c.mapped.ensures.value)) obj
+            before = 0;
+            same = λ obj. map_run d B o i c.args.scene.now.place c.args.at.line c.args.at.after c.args.map c.args.name c.in_ok-got.got (mapped_alike bits B o.window c.args.scene.now.place (map_at d c.args.map).width (map_output d c.args.map) c.in_ok-got.got (omega (arith, c.args.scene.now.readable.maps c.args.map)) took.most (alike_as (c.args.scene.now.place + reach) c.value_item.ensures l) (got ∙ c.mapped.ensures.value)) obj
                 ∙ ap (λ (x : Item). out x (inner_run d B o (onto (Lines (c.args.at.line + 1) c.args.at.after) (with_names (write c.args.name c.in_ok-got.got.value i.names) i)) c.in_ok-got.got.after obj)) (sym c.value_item.ensures);
             kind = ap (λ (x : Item). x.kind) c.value_item.ensures;
             ends = map_ends d bits o c.args.at.line 0 c.args.scene.now.place c.in_ok-got.got.after c.in_ok-got.got c.value_item.result c.value_item.ensures refl c.args.map c.args.name c.requires.is (got ∙ c.mapped.ensures.value);
@@ -53,7 +55,8 @@ returns-in_err-got g c =
     rw (p.1, p.2) (record {
       moved = λ B l.
           record {
-            same = λ obj. map_fails (description c.args.scene.now.tables.now) B (object_of c.args.scene.now.about) (inner_of c.args.self.now) c.args.scene.now.place c.args.at.line c.args.at.after c.args.map c.args.name t.0 (t.1 ∙ c.mapped.ensures.value ∙ ap (λ (x : List Bool). mapped x c.args.scene.now.about.window (map_at d c.args.map).width (map_output d c.args.map) c.args.scene.now.place) (sym l)) obj ∙ ap stop t.2;
+            before = 0;
+            same = λ obj. map_fails (description c.args.scene.now.tables.now) B (object_of c.args.scene.now.about) (inner_of c.args.self.now) c.args.scene.now.place c.args.at.line c.args.at.after c.args.map c.args.name t.0 (t.1 ∙ c.mapped.ensures.value ∙ mapped_refused (g.S.Source.bits c.args.scene.now.source.now) B c.args.scene.now.about.window c.args.scene.now.place (map_at d c.args.map).width (map_output d c.args.map) (omega (arith, c.args.scene.now.readable.maps c.args.map)) l) obj ∙ ap stop t.2;
             fit = c.requires.room.fit;
           };
       bound = λ h. tt;

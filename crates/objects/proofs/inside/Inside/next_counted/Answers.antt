@@ -11,6 +11,7 @@ returns-then-index-total g c =
     record {
       moved = λ B l.
           record {
+            before = 0;
             same = counted_end (description c.args.scene.now.tables.now) B (object_of c.args.scene.now.about) (inner_of c.args.self.now) c.args.scene.now.place c.args.line c.args.fields c.args.index c.args.total (omega arith);
             fit = fit_under (description c.args.scene.now.tables.now) _ _ c.requires;
             near = c.args.scene.now.near;
@@ -27,6 +28,7 @@ returns g c =
       moved = λ B l.
           begins_at (same-inner c.push.ensures refl)
           (record {
+            before = 0;
             same = counted_begins (description c.args.scene.now.tables.now) B (object_of c.args.scene.now.about) (inner_of c.args.self.now) c.args.scene.now.place c.args.line c.args.fields c.args.index c.args.total (omega arith);
             fit = counted_room (description c.args.scene.now.tables.now) B (object_of c.args.scene.now.about) (inner_of c.args.self.now) c.args.scene.now.place c.args.line c.args.fields c.args.index c.args.total c.requires;
             uses = counted_uses (description c.args.scene.now.tables.now) B (object_of c.args.scene.now.about) (inner_of c.args.self.now) c.args.scene.now.place c.args.line c.args.fields c.args.index c.args.total c.requires;

@@ -12,10 +12,11 @@ use Rattle.steps.specs.Took.{Took}
 use Rattle.records.specs.declared.statements.Statement.TheVariants.{Read}
 use Rattle.objects.specs.Ahead.{inner_run, onto, with_names}
 use Rattle.objects.specs.Scenes.{node_value}
-use Rattle.objects.proofs.Alikes.{element_alike, alike_as, took_as}
+use Rattle.objects.proofs.Alikes.{element_alike, element_refused, alike_as, took_as}
 use Rattle.objects.proofs.Owns.{element_ends}
 use Rattle.objects.proofs.NextLines.{line_named}
 use Rattle.objects.proofs.FrameRuns.{elements_end, element_fails, element_run, element_room, element_reads}
+use Rattle.objects.specs.Likewise.{reach}
 use Rattle.objects.proofs.Tries.{tried_ok, tried_err}
 use Rattle.objects.proofs.Sames.{same-inner, gives_at, room_under, fit_under}
 use Rattle.objects.proofs.inside.Inside.next_element.Goals as goal
@@ -25,6 +26,7 @@ returns-then-index-total g c =
     record {
       moved = λ B l.
           record {
+            before = 0;
             same = elements_end (description c.args.scene.now.tables.now) B (object_of c.args.scene.now.about) (inner_of c.args.self.now) c.args.scene.now.place c.args.line c.args.fields c.args.index c.args.total (omega arith);
             fit = fit_under (description c.args.scene.now.tables.now) _ _ c.requires;
             near = c.args.scene.now.near;
@@ -57,7 +59,8 @@ returns g c =
       moved = λ B l.
           gives_at (same-inner c.push.ensures (simp to_z-of_z at c.write.ensures))
           (record {
-            same = λ obj. element_run (description c.args.scene.now.tables.now) B (object_of c.args.scene.now.about) (inner_of c.args.self.now) c.args.scene.now.place c.args.line c.args.fields c.args.index c.args.total (omega arith) c.in_ok-got.got (element_alike bits B o.window c.args.scene.now.place f width lowest highest c.in_ok-got.got (alike_as c.value_item.ensures l) (got ∙ c.element.ensures.value)) obj
+            before = 0;
+            same = λ obj. element_run (description c.args.scene.now.tables.now) B (object_of c.args.scene.now.about) (inner_of c.args.self.now) c.args.scene.now.place c.args.line c.args.fields c.args.index c.args.total (omega arith) c.in_ok-got.got (element_alike bits B o.window c.args.scene.now.place f width lowest highest c.in_ok-got.got (omega arith) (alike_as (c.args.scene.now.place + reach) c.value_item.ensures l) (got ∙ c.element.ensures.value)) obj
                 ∙ ap (λ (x : Item). out x (inner_run d B o (onto (Elements c.args.line c.args.fields (c.args.index + 1) c.args.total) (with_names (write c.args.fields.name c.in_ok-got.got.value i.names) i)) c.in_ok-got.got.after obj)) (sym c.value_item.ensures);
             kind = ap (λ (x : Item). x.kind) c.value_item.ensures;
             ends = element_ends d bits o c.args.line c.args.index c.args.scene.now.place c.in_ok-got.got.after c.in_ok-got.got c.value_item.result c.value_item.ensures refl f width lowest highest (element_reads d bits o i c.args.scene.now.place c.args.line f c.args.index c.args.total c.requires) (got ∙ c.element.ensures.value);
@@ -78,7 +81,8 @@ returns-in_err-got g c =
     rw (p.1, p.2) (record {
       moved = λ B l.
           record {
-            same = λ obj. element_fails (description c.args.scene.now.tables.now) B (object_of c.args.scene.now.about) (inner_of c.args.self.now) c.args.scene.now.place c.args.line c.args.fields c.args.index c.args.total (omega arith) t.0 (t.1 ∙ c.element.ensures.value ∙ ap (λ (x : List Bool). element x c.args.scene.now.about.window f width lowest highest c.args.scene.now.place) (sym l)) obj ∙ ap stop t.2;
+            before = 0;
+            same = λ obj. element_fails (description c.args.scene.now.tables.now) B (object_of c.args.scene.now.about) (inner_of c.args.self.now) c.args.scene.now.place c.args.line c.args.fields c.args.index c.args.total (omega arith) t.0 (t.1 ∙ c.element.ensures.value ∙ element_refused (g.S.Source.bits c.args.scene.now.source.now) B c.args.scene.now.about.window c.args.scene.now.place f width lowest highest (omega arith) l) obj ∙ ap stop t.2;
             fit = fit_under (description c.args.scene.now.tables.now) _ _ c.requires;
           };
       bound = λ h. tt;

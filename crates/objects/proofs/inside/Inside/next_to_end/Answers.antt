@@ -20,6 +20,7 @@ returns-then-not-at_end g c =
       moved = λ B l.
           begins_at (same-inner c.push.ensures refl)
           (record {
+            before = 0;
             same = to_end_begins (description c.args.scene.now.tables.now) B (object_of c.args.scene.now.about) (inner_of c.args.self.now) c.args.scene.now.place c.args.line c.args.fields c.args.index (omega arith) (sym c.at_end.ensures ∙ c.if-not-at_end.true);
             fit = to_end_room (description c.args.scene.now.tables.now) B (object_of c.args.scene.now.about) (inner_of c.args.self.now) c.args.scene.now.place c.args.line c.args.fields c.args.index c.requires;
             uses = to_end_uses (description c.args.scene.now.tables.now) B (object_of c.args.scene.now.about) (inner_of c.args.self.now) c.args.scene.now.place c.args.line c.args.fields c.args.index c.requires;
@@ -37,6 +38,7 @@ returns-then-index-fields-2 g c =
     record {
       moved = λ B l.
           record {
+            before = 0;
             same = λ obj. to_end_stops (description c.args.scene.now.tables.now) B (object_of c.args.scene.now.about) (inner_of c.args.self.now) c.args.scene.now.place c.args.line c.args.fields c.args.index ended c.if-index-fields-2.true obj ∙ ap stop (sym (c.at.ensures ∙ ap (λ (f : Failure). fault f.cause c.args.line f.node c.args.scene.now.place) c.from.ensures));
             fit = fit_under (description c.args.scene.now.tables.now) _ _ c.requires;
           };
@@ -53,6 +55,7 @@ returns g c =
     record {
       moved = λ B l.
           record {
+            before = 0;
             same = to_end_ends (description c.args.scene.now.tables.now) B (object_of c.args.scene.now.about) (inner_of c.args.self.now) c.args.scene.now.place c.args.line c.args.fields c.args.index ended c.if-index-fields-2.false;
             fit = fit_under (description c.args.scene.now.tables.now) _ _ c.requires;
             near = c.args.scene.now.near;

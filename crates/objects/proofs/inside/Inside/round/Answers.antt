@@ -19,6 +19,7 @@ returns-then-is_zero g c =
     record {
       moved = λ B l.
           record {
+            before = 0;
             same = round_ends (description c.args.scene.now.tables.now) B (object_of c.args.scene.now.about) (inner_of c.args.self.now) c.args.scene.now.place c.args.line c.args.node c.args.count c.args.left c.in_ok-value.value (tried_ok c.args.line c.args.scene.now.place c.value.result _ c.in_ok-value.ensures ∙ c.value.ensures) (sym (simp to_z-of_z at c.is_zero.ensures) ∙ c.if-is_zero.true);
             fit = fit_under (description c.args.scene.now.tables.now) _ _ c.requires;
             near = c.args.scene.now.near;
@@ -32,6 +33,7 @@ returns-then-left-eq0 g c =
     record {
       moved = λ B l.
           record {
+            before = 0;
             same = λ obj. round_stops (description c.args.scene.now.tables.now) B (object_of c.args.scene.now.about) (inner_of c.args.self.now) c.args.scene.now.place c.args.line c.args.node c.args.count c.args.left (omega arith) c.in_ok-value.value (tried_ok c.args.line c.args.scene.now.place c.value.result _ c.in_ok-value.ensures ∙ c.value.ensures) (sym (simp to_z-of_z at c.is_zero.ensures) ∙ c.if-is_zero.false) obj ∙ ap stop (sym (c.at.ensures ∙ ap (λ (f : Failure). fault f.cause c.args.line f.node c.args.scene.now.place) c.from.ensures));
             fit = fit_under (description c.args.scene.now.tables.now) _ _ c.requires;
           };
@@ -49,6 +51,7 @@ returns g c =
       moved = λ B l.
           quietly_at (same-inner (c.push_both.ensures ∙ ap (λ (f : Frame). f ∷ Rounds c.args.line c.args.node c.args.count (c.args.left - 1) ∷ frames c.args.self.now.frames) c.lines_after.ensures) refl)
           (record {
+            before = 0;
             same = round_goes (description c.args.scene.now.tables.now) B (object_of c.args.scene.now.about) (inner_of c.args.self.now) c.args.scene.now.place c.args.line c.args.node c.args.count c.args.left (omega arith) c.in_ok-value.value (tried_ok c.args.line c.args.scene.now.place c.value.result _ c.in_ok-value.ensures ∙ c.value.ensures) (sym (simp to_z-of_z at c.is_zero.ensures) ∙ c.if-is_zero.false);
             fit = round_room (description c.args.scene.now.tables.now) B (object_of c.args.scene.now.about) (inner_of c.args.self.now) c.args.scene.now.place c.args.line c.args.node c.args.count c.args.left c.requires;
             near = c.args.scene.now.near;
@@ -63,6 +66,7 @@ returns-in_err-value g c =
     rw (p.1, p.2) (record {
       moved = λ B l.
           record {
+            before = 0;
             same = λ obj. round_fails (description c.args.scene.now.tables.now) B (object_of c.args.scene.now.about) (inner_of c.args.self.now) c.args.scene.now.place c.args.line c.args.node c.args.count c.args.left t.0 (t.1 ∙ c.value.ensures) obj ∙ ap stop t.2;
             fit = fit_under (description c.args.scene.now.tables.now) _ _ c.requires;
           };

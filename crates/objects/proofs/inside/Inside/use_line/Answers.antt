@@ -28,6 +28,7 @@ returns g c =
             | then-fields-gt0+in_ok-tried w ↦
                 quietly_at (same-inner (c.push_both.ensures ∙ (λ i. w.objects-is i ∷ c.lines_after.ensures i ∷ fs)) refl)
                 (record {
+                  before = 0;
                   same = use_run (description c.args.scene.now.tables.now) B (object_of c.args.scene.now.about) (inner_of c.args.self.now) c.args.scene.now.place c.args.at.line c.args.at.after c.args.fields w.if-fields-gt0.true w.in_ok-tried.field-0 (tried_ok c.args.at.line c.args.scene.now.place w.count.result _ w.in_ok-tried.ensures ∙ w.count.ensures);
                   fit = counted_room (description c.args.scene.now.tables.now) B (object_of c.args.scene.now.about) (inner_of c.args.self.now) c.args.scene.now.place c.args.at.line c.args.at.after c.args.fields w.in_ok-tried.field-0 c.requires.is c.requires.room;
                   near = c.args.scene.now.near;
@@ -35,6 +36,7 @@ returns g c =
             | else-fields-gt0 w ↦
                 quietly_at (same-inner (c.push_both.ensures ∙ (λ i. w.objects-is i ∷ c.lines_after.ensures i ∷ fs)) refl)
                 (record {
+                  before = 0;
                   same = use_to_end (description c.args.scene.now.tables.now) B (object_of c.args.scene.now.about) (inner_of c.args.self.now) c.args.scene.now.place c.args.at.line c.args.at.after c.args.fields (omega (arith, w.if-fields-gt0.false));
                   fit = to_end_room (description c.args.scene.now.tables.now) B (object_of c.args.scene.now.about) (inner_of c.args.self.now) c.args.scene.now.place c.args.at.line c.args.at.after c.args.fields c.requires.is c.requires.room;
                   near = c.args.scene.now.near;
@@ -51,6 +53,7 @@ returns-in_err-tried g c =
     rw (p.1, p.2) (record {
       moved = λ B l.
           record {
+            before = 0;
             same = λ obj. use_fails (description c.args.scene.now.tables.now) B (object_of c.args.scene.now.about) (inner_of c.args.self.now) c.args.scene.now.place c.args.at.line c.args.at.after c.args.fields (omega arith) t.0 (t.1 ∙ c.count.ensures) obj ∙ ap stop t.2;
             fit = c.requires.room.fit;
           };

@@ -1,15 +1,17 @@
 use Rattle.std.proofs.Common.{◌≡◌, Bool, List, Some, None, Ok, Err, sym, refl, ap, ◌∙◌, subst}
 use Rattle.table.specs.Description.{description}
 use Rattle.bits.specs.declared.source.Source.{Ghosts}
-use Rattle.rules.specs.Trace.{out, pass}
+use Rattle.rules.specs.Trace.{Run, out, pass}
+use Rattle.objects.specs.Passed.{passed}
 use Rattle.objects.proofs.Alikes.{alike_self}
+use Rattle.objects.proofs.Passing.{fewer_passed}
 use Rattle.reading.specs.declared.state.Reading.{Reading}
 use Rattle.reading.specs.Walks.{Answer, walk_ahead, Stepped}
 use Rattle.reading.specs.Positions.{latest}
 use Rattle.reading.specs.Reads.{ahead, last_of, held, Told}
 use Rattle.reading.specs.Calls.{given, Keeps, NextCalled}
 use Rattle.reading.proofs.Enclosing.{stepped_sound}
-use Rattle.reading.proofs.Nexts.{held_none, held_some, skipped_pass, skipped_out, skipped_stop, skipped_done, fewer_passes, told_next}
+use Rattle.reading.proofs.Nexts.{held_none, held_some, skipped_pass, skipped_out, skipped_stop, skipped_done, told_next}
 use Rattle.reading.proofs.state.Reading.next.Goals as goal
 
 module _ {S : Type 0} {g : Ghosts S} (bits : S → List Bool) where
@@ -52,8 +54,9 @@ returns-in-Ok-Some g c =
     let item = c.in-Ok-Some.item in
     let e : c.in-Some-step.answer ≡ Ok (Some item) = c.in-Ok-Some.is ∙ ap Ok (rw c.in-Ok-Some.is at c.in-Ok-Some.field-0-is) in
     let step = subst (λ (r : Answer). Stepped d bits s.walk (Some r) c.step.new.self) e c.in-Some-step.ensures.moved in
+    let m = step.moved _ alike_self in
     called g.S.Source.bits c.args.self.now _ c.in-Some-step.answer (Ok (Some item)) e
-    (sym c.loop-answer.invariant.1 ∙ skipped_out _ _ item (held_none s.fault before none ∙ (step.moved _ alike_self).same) ∙ ap (out item) (sym (held_none s.fault after none)))
+    (sym c.loop-answer.invariant.1 ∙ skipped_out _ _ item m.before (held_none s.fault before none ∙ m.same) ∙ ap (out item) (sym (held_none s.fault after none)))
     refl (record { description = c.loop-answer.invariant.3.description; source = c.loop-answer.invariant.3.source })
 
 pub returns-in-Ok-None : goal.returns-in-Ok-None
@@ -66,9 +69,9 @@ returns-in-Ok-None g c =
     let none = c.loop-answer.invariant.0 in
     let e : c.in-Some-step.answer ≡ Ok None = c.in-Ok-None.is ∙ ap Ok (rw c.in-Ok-None.is at c.in-Ok-None.field-0-is) in
     let step = subst (λ (r : Answer). Stepped d bits s.walk (Some r) c.step.new.self) e c.in-Some-step.ensures.moved in
-    let ends = step.moved _ refl in
+    let ends = step.moved _ alike_self in
     called g.S.Source.bits c.args.self.now _ c.in-Some-step.answer (Ok None) e (
-      sym c.loop-answer.invariant.1 ∙ skipped_done _ (held_none s.fault before none ∙ ends.same),
+      sym c.loop-answer.invariant.1 ∙ skipped_done _ ends.before (held_none s.fault before none ∙ ends.same),
       held_none s.fault after none ∙ ends.still,
     )
     c.loop-answer.invariant.2 (record { description = c.loop-answer.invariant.3.description; source = c.loop-answer.invariant.3.source })
@@ -83,8 +86,9 @@ returns-in-Err g c =
     let fault = c.in-Err.fault in
     let e : c.in-Some-step.answer ≡ Err fault = c.in-Err.is in
     let step = subst (λ (r : Answer). Stepped d bits s.walk (Some r) c.step.new.self) e c.in-Some-step.ensures.moved in
+    let m = step.moved _ alike_self in
     called g.S.Source.bits c.args.self.now _ c.in-Some-step.answer (Err fault) e
-    (sym c.loop-answer.invariant.1 ∙ skipped_stop _ fault (held_none s.fault before none ∙ (step.moved _ refl).same), refl)
+    (sym c.loop-answer.invariant.1 ∙ skipped_stop _ fault m.before (held_none s.fault before none ∙ m.same), refl)
     c.loop-answer.invariant.2 (record { description = c.loop-answer.invariant.3.description; source = c.loop-answer.invariant.3.source })
 
 pub loop-answer-preserved : goal.loop-answer-preserved
@@ -94,9 +98,10 @@ loop-answer-preserved g c =
     let bits = g.S.Source.bits s.source in
     let before = walk_ahead d bits s.walk in
     let after = walk_ahead d bits c.step.new.self in
-    let none = c.loop-answer.invariant.0 in (
+    let none = c.loop-answer.invariant.0 in
+    let m = c.in_default-step.ensures.moved.moved _ alike_self in (
       none,
-      sym (skipped_pass (held s.fault before) (held s.fault after) (held_none s.fault before none ∙ (c.in_default-step.ensures.moved.moved _ alike_self).same ∙ ap pass (sym (held_none s.fault after none)))) ∙ c.loop-answer.invariant.1,
+      sym (skipped_pass (held s.fault before) (held s.fault after) m.before (held_none s.fault before none ∙ m.same ∙ ap (λ (t : Run (Unit {0})). passed m.before (pass t)) (sym (held_none s.fault after none)))) ∙ c.loop-answer.invariant.1,
       c.loop-answer.invariant.2,
       record { description = c.loop-answer.invariant.3.description; source = c.loop-answer.invariant.3.source },
     )
@@ -109,11 +114,12 @@ loop-answer-smaller g c =
     let before = walk_ahead d bits s.walk in
     let after = walk_ahead d bits c.step.new.self in
     let none = c.loop-answer.invariant.0 in
-    fewer_passes (held s.fault before) (held s.fault after) (held_none s.fault before none ∙ (c.in_default-step.ensures.moved.moved _ alike_self).same ∙ ap pass (sym (held_none s.fault after none)))
+    let m = c.in_default-step.ensures.moved.moved _ alike_self in
+    fewer_passed m.before (held s.fault before) (held s.fault after) (held_none s.fault before none ∙ m.same ∙ ap (λ (t : Run (Unit {0})). passed m.before (pass t)) (sym (held_none s.fault after none)))
 
 pub returns-in-Some : goal.returns-in-Some
 returns-in-Some g c =
     let s = c.args.self.now in
     let f = c.in-Some.fault in
     let e = held_some s.fault f (walk_ahead (description s.tables.now) (g.S.Source.bits s.source) s.walk) c.in-Some.is in
-    called g.S.Source.bits s s (Err f) (Err f) refl (skipped_stop _ f e, e) refl (kept g.S.Source.bits s)
+    called g.S.Source.bits s s (Err f) (Err f) refl (skipped_stop _ f 0 e, e) refl (kept g.S.Source.bits s)

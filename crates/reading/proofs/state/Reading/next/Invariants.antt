@@ -1,6 +1,7 @@
 use Rattle.std.proofs.Common.{◌≡◌, None}
 use Rattle.reading.specs.Calls.{Keeps}
-use Rattle.reading.specs.Reads.{ahead, skipped, passes}
+use Rattle.objects.specs.Passed.{passes}
+use Rattle.reading.specs.Reads.{ahead, skipped}
 use Rattle.reading.proofs.state.Reading.next.Given as goal
 
 abbrev pub invariant-loop-answer : goal.invariant-loop-answer

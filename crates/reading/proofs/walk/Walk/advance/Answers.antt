@@ -1,7 +1,7 @@
 use Rattle.table.specs.Description.{description}
 use Rattle.objects.proofs.Alikes.{alike_self}
+use Rattle.objects.proofs.Passing.{fewer_passed}
 use Rattle.reading.specs.Walks.{walk_ahead}
-use Rattle.reading.proofs.Nexts.{fewer_passes}
 use Rattle.reading.proofs.Taking.{silent_none, silent_more, last_answer}
 use Rattle.reading.proofs.walk.Walk.advance.Goals as goal
 
@@ -21,7 +21,8 @@ pub loop-answer-smaller : goal.loop-answer-smaller
 loop-answer-smaller g c =
     let d = description c.args.tables.now in
     let bits = g.S.Source.bits c.args.source.now in
-    fewer_passes (walk_ahead d bits c.loop-answer.self) (walk_ahead d bits c.step.new.self) (c.in_default.ensures.moved.moved bits alike_self).same
+    let m = c.in_default.ensures.moved.moved bits alike_self in
+    fewer_passed m.before (walk_ahead d bits c.loop-answer.self) (walk_ahead d bits c.step.new.self) m.same
 
 pub loop-answer-preserved : goal.loop-answer-preserved
 loop-answer-preserved g c =

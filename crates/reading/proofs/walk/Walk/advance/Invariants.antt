@@ -1,6 +1,6 @@
 use Rattle.table.specs.Description.{description}
 use Rattle.reading.specs.Offers.{Silent}
-use Rattle.reading.specs.Reads.{passes}
+use Rattle.objects.specs.Passed.{passes}
 use Rattle.reading.specs.Walks.{walk_ahead}
 use Rattle.reading.proofs.walk.Walk.advance.Given as goal
 

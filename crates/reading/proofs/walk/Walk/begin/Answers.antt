@@ -1,7 +1,10 @@
 use Rattle.std.proofs.Common.{◌+◌, ◌*◌, ◌≤◌, sym, ap, ◌∙◌, subst, arith, rules, of_calls}
 use Rattle.std.proofs.lemmas.Result.{err_from_is_err_and, IfOk-at_ok}
 use Rattle.records.specs.declared.records.Class.{Class}
-use Rattle.table.specs.Description.{description}
+use Rattle.table.specs.Description.{description, class_at}
+use Rattle.rules.specs.Lookups.{greatest}
+use Rattle.objects.proofs.Alikes.{header_refused}
+use Rattle.reading.proofs.Enclosing.{id_narrow}
 use Rattle.rules.specs.Steps.{header}
 use Rattle.rules.specs.declared.steps.Header.{Header}
 use Rattle.objects.proofs.Tries.{tried_ok, tried_err, told_at}
@@ -19,6 +22,7 @@ returns-then-self-ge-MOST-clause-moved g c =
     record {
       moved = λ B same.
           record {
+            before = 0;
             same = begin_full d B (objects_of c.args.self.now) c.args.used c.args.view.now.window c.args.self.now.place (all_open c.args.self.now (omega arith)) ∙ ap stop (sym (c.at.ensures ∙ ap (λ (f : Failure). fault f.cause c.args.used.line f.node c.args.self.now.place) c.from.ensures));
             sound = c.requires.sound;
           };
@@ -60,15 +64,18 @@ returns-clause-moved g c =
 pub returns-in_err-header-clause-moved : goal.returns-in_err-header-clause-moved
 returns-in_err-header-clause-moved g c =
     let d = description c.args.tables.now in
+    let bits = g.S.Source.bits c.args.view.now.source.now in
     let p = err_from_is_err_and c.from_residual.result c.from_residual.ensures.1 in
     let t = tried_err c.args.used.line c.args.self.now.place c.header.result _
     (sym c.in_err-header.was ∙ told_at c.args.used.line c.args.self.now.place c.header.result c.map_err.result _ (λ f y q. search (rules, of_calls)) c.map_err.ensures.cases) in
     rw (p.1, p.2) (record {
       moved = λ B same.
-          let back = sym same in
+          let u = c.args.used in
           record {
+            before = 0;
             same = begin_fails d B (objects_of c.args.self.now) c.args.used c.args.view.now.window c.args.self.now.place (few_open c.args.self.now (omega arith)) t.0
-                (t.1 ∙ c.header.ensures.value ∙ (λ i. header (back i) c.args.view.now.window (c.class.ensures i) (c.greatest-greatest.ensures i) c.args.self.now.place))
+                (t.1 ∙ c.header.ensures.value ∙ (λ i. header bits c.args.view.now.window (c.class.ensures i) (c.greatest-greatest.ensures i) c.args.self.now.place)
+                ∙ header_refused bits B c.args.view.now.window c.args.self.now.place (class_at d u.class) (greatest d u.class) (id_narrow (class_at d u.class) (c.requires.readable.ids u.class)) same)
                 ∙ ap stop t.2;
             sound = c.requires.sound;
           };

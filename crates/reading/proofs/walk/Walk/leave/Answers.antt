@@ -10,6 +10,7 @@ use Rattle.rules.specs.Reading.{close_item, write}
 use Rattle.values.specs.Names.{named_by}
 use Rattle.reading.specs.declared.open_object.Opened.{Opened}
 use Rattle.objects.specs.Ahead.{inner_of, with_names, state}
+use Rattle.objects.specs.Passed.{passed}
 use Rattle.reading.specs.Pushes.{around}
 use Rattle.reading.specs.declared.walk.Walk.{Walk}
 use Rattle.reading.specs.Walks.{no_object, rest, rest_from, received, AllFit, Enclosed, looked_to, OwnEnd}
@@ -47,11 +48,12 @@ returns-then-i-eq0-clause-moved c = λ d bits from leaving.
           let called : close_item a.about.class a.used.line a.used.index q ≡ c.close_item.result = sym (c.close_item.ensures ∙ ap (λ (x : Opened). close_item x.about.class x.used.line x.used.index q) l.is) in
           let objects = popped_objects (record { objects = xs; depth = i; place = q; started = c.args.self.now.started }) (omega arith) in
           record {
+            before = l.before;
             same =
-                l.same ∙ left_at d B a (around xs i) b p q at
+                l.same ∙ ap (passed l.before) (left_at d B a (around xs i) b p q at
                 ∙ ap (λ (x : Item). out x (rest_from d B (around xs i) (received a.used (state q b) (around xs i)))) called
                 ∙ ap (out c.close_item.result) (left_last d B xs i a.used q b c.if-i-eq0.true
-                ∙ sym (ahead_of d B _ (around xs i) q c.requires.started objects refl));
+                ∙ sym (ahead_of d B _ (around xs i) q c.requires.started objects refl)));
             sound = sound_from d _ (around xs i) objects l.fits near;
           };
       bound = λ h.
@@ -95,12 +97,13 @@ returns-clause-moved c = λ d bits from leaving.
           ∙ ap (λ (y : OpenObject). with_names (write c.args.opened.used.receiving (named_by y.inside.names c.args.opened.used.carried) (named_by o.inside.names)) (inner_of o.inside)) here
           ∙ ap (λ (x : Opened). with_names (write x.used.receiving (b.names x.used.carried) (named_by o.inside.names)) (inner_of o.inside)) l.is in
           record {
+            before = l.before;
             same =
-                l.same ∙ left_at d B a (around xs i) b p q at
+                l.same ∙ ap (passed l.before) (left_at d B a (around xs i) b p q at
                 ∙ ap (λ (y : Item). out y (rest_from d B (around xs i) (received a.used (state q b) (around xs i)))) called
                 ∙ ap (out c.close_item-2.result) (left_others d B xs i a.used q b (omega arith) j e
                 ∙ ap (λ (y : OpenObject). rest d B (record { opened = y.opened; inside = j } ∷ around xs (i - 1)) q) (sym same)
-                ∙ sym (ahead_of d B _ (x ∷ around xs (i - 1)) q c.requires.started objects refl));
+                ∙ sym (ahead_of d B _ (x ∷ around xs (i - 1)) q c.requires.started objects refl)));
             sound = sound_from d _ (x ∷ around xs (i - 1)) objects
                 (subst (λ (y : OpenObject). AllFit d (record { opened = y.opened; inside = j } ∷ around xs (i - 1))) (sym same) (received_fit d xs i (omega arith) j _ e l.fits)) near;
           };

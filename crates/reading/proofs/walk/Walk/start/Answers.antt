@@ -21,7 +21,7 @@ returns g c =
     let d = description c.args.tables.now in
     let bits = g.S.Source.bits c.args.source.now in
     let begun = rw c.used_by_none.ensures at c.begin.ensures.moved in
-    walked_from d bits 0 0 (Some c.begin.result) c.begin.new.self refl
-    (λ B long. start_run d B _ c.args.count (none_open _ refl) (c.requires.whole ∙ long))
+    walked_from d bits 0 0 _ c.begin.result c.begin.new.self refl
+    (λ B long. (0, start_run d B _ c.args.count (none_open _ refl) (c.requires.whole ∙ long)))
     (λ h. subst (λ (os : List OpenObject). Enclosed (length bits) os c.args.count) (sym (none_open _ refl)) (omega (arith, c.requires.whole)))
     begun

@@ -1,15 +1,15 @@
-use Rattle.std.proofs.Common.{◌≡◌, ℕ, ◌≤◌, Some, Ok, Err, length, get_or, set, sym, refl, ap, ◌∙◌, subst, arith, get_or-set_same}
+use Rattle.std.proofs.Common.{◌≡◌, ℕ, ◌+◌, ◌≤◌, min, Some, Ok, Err, length, get_or, set, sym, refl, ap, ◌∙◌, subst, arith, get_or-set_same}
 use Rattle.std.proofs.lemmas.List.{get_or_default}
 use Rattle.table.specs.Description.{description}
 use Rattle.records.specs.declared.statements.Statement.TheVariants.{Use}
 use Rattle.rules.specs.declared.items.Kind.{Kind}
 use Rattle.objects.specs.declared.inside.About.{About}
 use Rattle.objects.specs.declared.moves.Move.TheVariants.{Quiet, Give, Begin, Leave}
-use Rattle.objects.specs.Likewise.{Alike}
+use Rattle.objects.specs.Likewise.{Alike, reach}
 use Rattle.objects.proofs.Alikes.{alike_self}
 use Rattle.objects.proofs.NextLines.{line_named, line_declared}
 use Rattle.reading.specs.declared.open_object.OpenObject.{OpenObject}
-use Rattle.reading.specs.Walks.{no_object, cut, looked_to, Within, Handed}
+use Rattle.reading.specs.Walks.{no_object, cut, looked_to, sight, Within, Handed}
 use Rattle.reading.proofs.Enclosing.{begun_from, not_begun_from, begun_enclosed, walked_from, value_alike, in_cut, enclosed_still, enclosed_window, quiet_within, give_within}
 use Rattle.reading.proofs.Stepping.{none_open, sound_near, not_begun_ahead}
 use Rattle.reading.proofs.Turns.{StepOf, fits, changed, objects_are, changed_sound, turned_quiet, turned_give, turned_refuse, turned_begin, turned_leave}
@@ -62,7 +62,7 @@ returns-in-Err-clause-moved g c =
     record {
       moved = λ B same.
           turned_refuse d B w i e started sound (omega arith) it is j f
-          (subst (λ (x : About). StepOf d B x it.inside w.place (Err f) j) (at (length B) (ap length (sym same))) (c.in-Err.ensures.moved B same));
+          (subst (λ (x : About). StepOf d B x it.inside w.place (Err f) j) (at (length B) same.long) (c.in-Err.ensures.moved B (subst (λ p. Alike bits B p (p + reach)) from same)));
       bound = λ h. tt;
       ends = λ st. tt;
     }
@@ -87,7 +87,7 @@ returns-in-Ok-Quiet-clause-moved g c =
     record {
       moved = λ B l.
           turned_quiet d B w i e started sound (omega arith) it is j q
-          (subst (λ (x : About). StepOf d B x it.inside w.place (Ok (Quiet q)) j) (at (length B) l.long) (m.moved B (subst (λ p. Alike bits B p q) from l)));
+          (subst (λ (x : About). StepOf d B x it.inside w.place (Ok (Quiet q)) j) (at (length B) l.long) (m.moved B (subst (λ p. Alike bits B p (min q (p + reach))) from l)));
       bound = λ h.
           let k = begun_enclosed (length bits) w started h in
           subst (λ p. Within (length bits) p (changed d bits w i e started sound (omega arith) it is j q)) (sym from)
@@ -119,7 +119,7 @@ returns-in-Ok-Give-clause-moved g c =
       moved = λ B l.
           turned_give d B w i e started sound (omega arith) it is j q x
           (subst (λ (y : About). StepOf d B y it.inside w.place (Ok (Give x q)) j) (at (length B) l.long)
-          (m.moved B (value_alike bits B w.place x q kind (subst (λ p. Alike bits B p (looked_to x.kind x.place x.length q)) from l))));
+          (m.moved B (value_alike bits B w.place x q kind (subst (λ p. Alike bits B p (sight x.kind p x.place x.length q)) from l))));
       bound = λ h.
           let k = begun_enclosed (length bits) w started h in
           subst (λ p. Handed (length bits) p x (changed d bits w i e started sound (omega arith) it is j q)) (sym from)
@@ -196,11 +196,11 @@ returns-in-Ok-Begin-clause-moved g c =
     let index = c.in-Ok-Begin.index in
     let all = rw c.in-Ok-Begin.field-0-is at c.in-Ok-Begin.ensures in
     let begun = rw (c.view.ensures.source, c.view.ensures.window) at c.begin.ensures.moved in
-    walked_from d bits _ w.place (Some c.begin.result) c.begin.new.self from
+    walked_from d bits _ w.place _ c.begin.result c.begin.new.self from
     (λ B long.
     let ab = at (length B) long in
     let m = subst (λ (x : About). StepOf d B x it.inside w.place (Ok (Begin line fields index)) j) ab (all.moved B long) in
-    turned_begin d B w i e started sound (omega arith) it is j line fields index (line_named d line (Use fields) m.uses c.requires.readable) c.within.result.window (ap (λ (x : About). x.window) ab) m)
+    (m.before, turned_begin d B w i e started sound (omega arith) it is j line fields index (line_named d line (Use fields) m.uses c.requires.readable) c.within.result.window (ap (λ (x : About). x.window) ab) m))
     (λ h. enclosed_window (length bits) w i e (begun_enclosed (length bits) w started h) it is c.within.result.window.end end _ j (objects_are d bits w i e started sound (omega arith) it is j w.place))
     begun
 
@@ -226,7 +226,7 @@ returns-in-Ok-Leave-clause-moved g c =
     let left : OpenObject = record { opened = it.opened; inside = j } in
     let now = get_or (set w.objects i left) i c.index-self-i-in-Ok-Leave.result in
     let there : now ≡ left = get_or-set_same w.objects i left c.index-self-i-in-Ok-Leave.result (omega arith) in
-    walked_from d bits _ w.place (Some c.leave.result) c.leave.new.self from (λ B long. refl)
+    walked_from d bits _ w.place _ c.leave.result c.leave.new.self from (λ B long. (0, refl))
     (λ h. enclosed_still (length bits) w i e (begun_enclosed (length bits) w started h) it is _ j (objects_are d bits w i e started sound (omega arith) it is j w.place))
     (c.leave.ensures.moved d bits _
     (λ B long.
@@ -240,5 +240,5 @@ pub returns-then-not-self-clause-moved : goal.returns-then-not-self-clause-moved
 returns-then-not-self-clause-moved g c =
     let d = description c.args.tables.now in
     let w = c.args.self.now in
-    walked_from d (g.S.Source.bits c.args.source.now) _ 0 (Some c.start.result) c.start.new.self (not_begun_from w c.if-not-self.true)
-    (λ B long. not_begun_ahead d B w c.if-not-self.true) (λ h. tt) c.start.ensures
+    walked_from d (g.S.Source.bits c.args.source.now) _ 0 _ c.start.result c.start.new.self (not_begun_from w c.if-not-self.true)
+    (λ B long. (0, not_begun_ahead d B w c.if-not-self.true)) (λ h. tt) c.start.ensures

@@ -1,5 +1,5 @@
 use Rattle.std.proofs.Common.{◌≡◌, ◌-◌, Ok, Err, Result, sym, ap, ◌∙◌, arith}
-use Rattle.steps.proofs.Takes.{zero_told, aligned_short, aligned_zero, aligned-set}
+use Rattle.steps.proofs.Takes.{zero_told, aligned_short, none_zero, aligned_zero, aligned-set}
 use Rattle.steps.proofs.view.View.aligned.Goals as goal
 
 ok_injective : {A E : Type 0} {x y : A} → ◌≡◌ {A = Result A E} (Ok x) (Ok y) → x ≡ y
@@ -13,6 +13,18 @@ returns-then-q-self g c =
           ap Err c.ends.ensures
           ∙ sym (aligned_short (g.S.Source.bits c.args.self.now.source.now) c.args.self.now.window c.args.to c.args.p (rw (← e) c.next_multiple-q.ensures.bound) (rw (← e) c.if-q-self.true));
       bound = tt;
+    }
+
+pub returns-then-q-p : goal.returns-then-q-p
+returns-then-q-p g c =
+    let bits = g.S.Source.bits c.args.self.now.source.now in
+    let e = c.next_multiple-q.ensures.value in
+    record {
+      value =
+          ap Ok e
+          ∙ sym (aligned_zero bits c.args.self.now.window c.args.to c.args.p (rw (← e) c.next_multiple-q.ensures.bound) (rw (← e) c.if-q-self.false)
+          (rw (← e) (none_zero bits c.args.p (c.next_multiple-q.result - c.args.p) (omega arith))));
+      bound = (c.next_multiple-q.ensures.bound, c.if-q-self.false);
     }
 
 pub returns-then-branch : goal.returns-then-branch

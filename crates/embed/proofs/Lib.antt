@@ -1,0 +1,3 @@
+mod Counting
+mod Told
+mod Written

@@ -1,0 +1,5 @@
+pub mod Numbers
+pub mod Checking
+pub mod Folding
+pub mod Told
+pub mod Writing

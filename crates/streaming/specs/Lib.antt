@@ -1,0 +1,4 @@
+pub mod Pages
+pub mod Making
+pub mod Calls
+pub mod Histories
