@@ -8,12 +8,11 @@ use Rattle.checked.specs.Check.{first_fault}
 use Rattle.checked.specs.Making.{Checks}
 use Rattle.checked.specs.declared.checked.Checked.{Checked}
 use Rattle.bits.specs.declared.refusal.Refusal.{Refusal}
-use Rattle.bits.specs.Refusals.{refusal_number}
-use Rattle.bits.specs.Make.{Makes}
 use Rattle.embed.specs.declared.answers.CheckAnswer.{CheckAnswer}
-use Rattle.embed.specs.Told.{CameTo, SourceTold, FileTold, StreamTold}
-use Rattle.embed.specs.Checking.{accepted, check_or_none, answer_of, CheckTold}
+use Rattle.embed.specs.Told.{CameTo, SourceTold, FileTold, CheckedTo, StreamTold}
+use Rattle.embed.specs.Checking.{check_or_none, answer_of, CheckTold}
 use Rattle.embed.specs.Numbers.{check_of}
+use Rattle.embed.specs.Sources.{Gives}
 
 none : (o : Option Fault) → is_some o ≡ false → o ≡ None
 none None e = refl
@@ -30,24 +29,22 @@ told (Ok d) (Err g) (inl h) = inl (ap check_of h)
 told (Ok d) (Err g) (inr h) = inr (sym (ap check_or_none h))
 told (Ok d) (Ok c) h = inr (sym (ap check_or_none (faultless d c h)))
 
-module _ (U : CheckAnswer → ℕ → Type 0) (T : Description → List Bool → Type 0) {S : Type 0} (bits : S → List Bool) (wanted : List Bool) (size limit : ℕ) (why : Refusal) where
-  source_told : (c : Checked) (m : Result S Refusal) → Makes m bits wanted size limit why → CameTo U T bits (Ok c) m
-      → SourceTold U T (description c.loaded) wanted size limit why
-  source_told c (Ok s) h t = inl (h.1, subst (λ (l : List Bool). T (description c.loaded) l) h.0 t)
-  source_told c (Err e) h t = inr (h.1, subst (λ (r : Refusal). U accepted (refusal_number r)) h.0 t)
+-- by how the file was checked, whatever is said of a refused one and of an accepted one
+pub file_told : (U : Fault → Type 0) (A : Description → Type 0) (r : Result Description Fault) (s : Result Checked Fault) → Checks r s
+    → CheckedTo U A s → FileTold U A r
+file_told U A (Err f) (Err g) h t = subst U h t
+file_told U A (Err f) (Ok c) h t = absurd h
+file_told U A (Ok d) (Err g) (inl h) t = inl (subst U h t)
+file_told U A (Ok d) (Err g) (inr h) t = inr (inl (g, h, t))
+file_told U A (Ok d) (Ok c) h t = inr (inr (faultless d c h, subst A h t))
+
+module _ (U : CheckAnswer → ℕ → Type 0) (T : Description → List Bool → Type 0) {S : Type 0} (bits : S → List Bool) (wanted : List Bool) (refusal : Option Refusal) where
+  source_told : (c : Checked) (m : Result S Refusal) → Gives m bits wanted refusal → CameTo U T bits (Ok c) m → SourceTold U T wanted refusal (description c.loaded)
+  source_told c (Ok s) h t =
+      subst (λ (o : Option Refusal). SourceTold U T wanted o (description c.loaded)) (sym h.1) (subst (λ (l : List Bool). T (description c.loaded) l) h.0 t)
+  source_told c (Err e) h t = subst (λ (o : Option Refusal). SourceTold U T wanted o (description c.loaded)) (sym h) t
 
   pub stream_told : (r : Result Description Fault) (s : Result Checked Fault) (m : Result S Refusal) → Checks r s
-      → Makes m bits wanted size limit why → CameTo U T bits s m → StreamTold U T r wanted size limit why
-  stream_told (Err f) (Err g) m h k t = subst (λ (e : Fault). U (check_of e) 0) h t
-  stream_told (Err f) (Ok c) m h k t = absurd h
-  stream_told (Ok d) (Err g) m (inl h) k t = inl (subst (λ (e : Fault). U (check_of e) 0) h t)
-  stream_told (Ok d) (Err g) m (inr h) k t = inr (inl (g, h, t))
-  stream_told (Ok d) (Ok c) m h k t =
-      inr (inr (faultless d c h, subst (λ (e : Description). SourceTold U T e wanted size limit why) h (source_told c m k t)))
-
--- where the file has a fault of its own, whatever is read
-pub file_told : (U : CheckAnswer → ℕ → Type 0) (T : Description → List Bool → Type 0) {S : Type 0} (bits : S → List Bool) (r : Result Description Fault)
-    (s : Result Checked Fault) (m : Result S Refusal) → Checks r s → CameTo U T bits s m → FileTold U r
-file_told U T bits (Err f) (Err g) m h t = subst (λ (e : Fault). U (check_of e) 0) h t
-file_told U T bits (Err f) (Ok c) m h t = absurd h
-file_told U T bits (Ok d) s m h t = tt
+      → Gives m bits wanted refusal → CameTo U T bits s m → StreamTold U T r wanted refusal
+  stream_told r (Err g) m h k t = file_told (λ f. U (check_of f) 0) (SourceTold U T wanted refusal) r (Err g) h t
+  stream_told r (Ok c) m h k t = file_told (λ f. U (check_of f) 0) (SourceTold U T wanted refusal) r (Ok c) h (source_told c m k t)

@@ -1,13 +1,21 @@
--- What a writing answers, by how the description file was checked.
-use Rattle.std.proofs.Common.{ℕ, List, Ok, Err, Result, ap, ◌∙◌}
-use Rattle.records.specs.declared.faults.Fault.{Fault}
-use Rattle.table.specs.Description.{Description}
-use Rattle.checked.specs.Making.{Checks}
-use Rattle.embed.specs.declared.write.WriteAnswer.{WriteAnswer}
-use Rattle.embed.specs.Numbers.{check_of}
-use Rattle.embed.specs.Writing.{Unwritten, NotBegun}
+-- Putting items one after the other.
+use Rattle.std.proofs.Common.{◌≡◌, ℕ, ◌+◌, ◌<◌, List, ◌∷◌, ◌++◌, length, take, drop, get_or, Ok, Err, sym, subst, ◌∙◌, ap, arith, take-append-drop, length-take-le}
+use Rattle.std.proofs.lemmas.List.{take_more, drop_more}
+use Rattle.writing.specs.declared.refusal.WritingRefusal.{WritingRefusal}
+use Rattle.writing.specs.declared.state.Writing.{Writing}
+use Rattle.writing.specs.Calls.{PutCalled}
+use Rattle.embed.specs.declared.answers.FlatItem.{FlatItem}
+use Rattle.embed.specs.Writing.{item_for, Took, one_more, Stopped, stopped}
 
-pub not_begun : (r : Result Description Fault) (g : Fault) (before after : List ℕ) (a : WriteAnswer) → Checks r (Err g) → NotBegun g before a after → Unwritten r before a after
-not_begun (Err f) g before after a h n =
-    record { check_is = n.check_is ∙ ap check_of h; items_are = n.items_are; refusal_is = n.refusal_is; buffer_is = n.buffer_is }
-not_begun (Ok d) g before after a h n = tt
+module _ (first : Writing) (before : List ℕ) (ns : List FlatItem) where
+  pub took_more : (count : ℕ) (v w : Writing) (buffer stored : List ℕ) (d : FlatItem) → count < length ns
+      → Took first before v buffer (take count ns) → PutCalled v (item_for (get_or ns count d)) buffer (Ok tt) w stored → Took first before w stored (take (count + 1) ns)
+  took_more count v w buffer stored d h t p = subst (λ (l : List FlatItem). Took first before w stored l) (sym (take_more ns count d h)) (one_more (get_or ns count d) t p)
+
+  pub stopped_at : (count : ℕ) (v w : Writing) (buffer stored : List ℕ) (d : FlatItem) (e : WritingRefusal) → count < length ns
+      → Took first before v buffer (take count ns) → PutCalled v (item_for (get_or ns count d)) buffer (Err e) w stored → Stopped first before ns count e w stored
+  stopped_at count v w buffer stored d e h t p =
+      let n = get_or ns count d in
+      let split : ns ≡ take count ns ++ (n ∷ drop (count + 1) ns) =
+      sym (take-append-drop count ns) ∙ ap (λ (l : List FlatItem). take count ns ++ l) (drop_more ns count d h) in
+      subst (λ k. Stopped first before ns k e w stored) (length-take-le count ns (omega arith)) (stopped (take count ns) n (drop (count + 1) ns) split t p)

@@ -1,12 +1,11 @@
 // A number over all items of a stream.
-ghost use Rattle.std.specs.Prelude.{length};
+ghost use Rattle.std.specs.Prelude.{◌≡◌, ℕ, length};
 ghost use Rattle.bits.specs.Make.{most_bytes};
-ghost use Rattle.bits.specs.Units.{units_bits};
-ghost use Rattle.bits.specs.declared.refusal.Refusal.TheVariants.{TooLong};
 ghost use Rattle.table.specs.Loading.{loaded};
 ghost use Rattle.reading.specs.Reads.{ahead};
 ghost use Rattle.table.specs.Description.{description};
-ghost use Rattle.embed.specs.Folding.{Counted};
+ghost use Rattle.embed.specs.Folding.{with_item, sum_with, digest_start, digest_with, Folded};
+ghost use Rattle.embed.specs.Sources.{byte_bits, too_long};
 ghost use Rattle.embed.specs.Told.{Unfolded, FoldedThrough, CameTo, StreamTold};
 
 use crate::answers::{ACCEPTED, CheckAnswer, FaultAnswer, NO_FAULT};
@@ -42,25 +41,42 @@ fn nothing(check: CheckAnswer, cause: u32) -> FoldAnswer
     }
 }
 
-// A number that takes items in, one after the other.
+// A number that takes in the numbers of items, one after the other.
 pub(crate) trait Fold: Copy {
+    // Where it starts, and what one more number makes of it.
+    ghost start: { ℕ };
+
+    ghost step: { ℕ → ℕ → ℕ };
+
+    // What it is so far.
+    ghost so_far: { Self → ℕ };
+
     // The number before any item.
-    fn begin() -> Self;
+    fn begin() -> Self
+        ensures { so_far result ≡ start };
 
     // The number with one more item.
-    fn with(self, item: Item) -> Self;
+    fn with(self, item: Item) -> Self
+        ensures { so_far result ≡ with_item step (so_far self) item };
 
     // The number so far.
-    fn number(self) -> u64;
+    fn number(self) -> u64
+        ensures { result ≡ so_far self };
 }
 
 // The sum of all numbers of all items, which costs little.
 #[derive(Clone, Copy)]
 pub(crate) struct Sum {
-    sum: i64,
+    sum: u64,
 }
 
 impl Fold for Sum {
+    ghost start = { 0 };
+
+    ghost step = { sum_with };
+
+    ghost so_far = { λ s. s.sum };
+
     fn begin() -> Sum {
         Sum { sum: 0 }
     }
@@ -68,18 +84,18 @@ impl Fold for Sum {
     fn with(self, item: Item) -> Sum {
         let sum = self
             .sum
-            .wrapping_add(i64::from(item.kind.number()))
-            .wrapping_add(i64::from(item.line))
-            .wrapping_add(i64::from(item.class))
-            .wrapping_add(i64::from(item.index))
-            .wrapping_add(item.value)
-            .wrapping_add(i64::from(item.place))
-            .wrapping_add(i64::from(item.length));
+            .wrapping_add(u64::from(item.kind.number()))
+            .wrapping_add(u64::from(item.line))
+            .wrapping_add(u64::from(item.class))
+            .wrapping_add(u64::from(item.index))
+            .wrapping_add(item.value.cast_unsigned())
+            .wrapping_add(u64::from(item.place))
+            .wrapping_add(u64::from(item.length));
         Sum { sum }
     }
 
     fn number(self) -> u64 {
-        self.sum.cast_unsigned()
+        self.sum
     }
 }
 
@@ -90,7 +106,10 @@ pub(crate) struct Digest {
 }
 
 impl Digest {
-    fn take(self, number: i64) -> Digest {
+    // The digest with the eight bytes of one more number.
+    fn take(self, number: u64) -> Digest
+        ensures { result.digest ≡ digest_with self.digest number }
+    {
         let digest = number
             .to_le_bytes()
             .iter()
@@ -102,6 +121,12 @@ impl Digest {
 }
 
 impl Fold for Digest {
+    ghost start = { digest_start };
+
+    ghost step = { digest_with };
+
+    ghost so_far = { λ d. d.digest };
+
     fn begin() -> Digest {
         Digest {
             digest: 0xCBF2_9CE4_8422_2325,
@@ -109,13 +134,13 @@ impl Fold for Digest {
     }
 
     fn with(self, item: Item) -> Digest {
-        self.take(i64::from(item.kind.number()))
-            .take(i64::from(item.line))
-            .take(i64::from(item.class))
-            .take(i64::from(item.index))
-            .take(item.value)
-            .take(i64::from(item.place))
-            .take(i64::from(item.length))
+        self.take(u64::from(item.kind.number()))
+            .take(u64::from(item.line))
+            .take(u64::from(item.class))
+            .take(u64::from(item.index))
+            .take(item.value.cast_unsigned())
+            .take(u64::from(item.place))
+            .take(u64::from(item.length))
     }
 
     fn number(self) -> u64 {
@@ -125,7 +150,7 @@ impl Fold for Digest {
 
 // Reads to the end or the fault. It stops after 2^64 - 1 items, which no run of a program comes to.
 fn read<S: Source + Drop, F: Fold>(mut reading: Reading<S>) -> (u64, F, FaultAnswer)
-    ensures { Counted (ahead S.bits reading.entry) result.0 result.2 }
+    ensures { Folded F.step F.start (ahead S.bits reading.entry) result.0 (F.so_far result.1) result.2 }
 {
     let mut fold = F::begin();
     for items in 0..u64::MAX {
@@ -140,7 +165,7 @@ fn read<S: Source + Drop, F: Fold>(mut reading: Reading<S>) -> (u64, F, FaultAns
 
 // What comes of a reading.
 fn read_through<S: Source + Drop, F: Fold>(checked: &Checked, source: S) -> FoldAnswer
-    ensures { FoldedThrough result (description checked.now.loaded) (S.bits source) }
+    ensures { FoldedThrough F.step F.start result (description checked.now.loaded) (S.bits source) }
 {
     let (items, fold, fault) = read::<S, F>(Reading::open(checked, source));
     FoldAnswer {
@@ -156,7 +181,7 @@ pub(crate) fn folded<S: Source + Drop, F: Fold>(
     checked: Result<Checked, Fault>,
     source: Result<S, Refusal>,
 ) -> FoldAnswer
-    ensures { CameTo (Unfolded result) (FoldedThrough result) S.bits checked source }
+    ensures { CameTo (Unfolded result) (FoldedThrough F.step F.start result) S.bits checked source }
 {
     match checked {
         Ok(checked) => match source {
@@ -170,8 +195,8 @@ pub(crate) fn folded<S: Source + Drop, F: Fold>(
 // Reads a stream of bytes, and answers the digest of its items.
 #[unsafe(no_mangle)]
 pub extern "C" fn jilafotra_digest(heap: Global, description: &[u8], stream: &[u8]) -> FoldAnswer
-    ensures { StreamTold (Unfolded result) (FoldedThrough result) (loaded description.now)
-        (units_bits 8 (λ b. b) stream.now) (length stream.now) most_bytes TooLong }
+    ensures { StreamTold (Unfolded result) (FoldedThrough digest_with digest_start result) (loaded description.now)
+        (byte_bits stream.now) (too_long most_bytes (length stream.now)) }
 {
     folded::<Bytes, Digest>(Checked::load(heap, description), Bytes::new(stream))
 }
@@ -179,8 +204,8 @@ pub extern "C" fn jilafotra_digest(heap: Global, description: &[u8], stream: &[u
 // Reads a stream of bytes, and answers the sum of all numbers of its items.
 #[unsafe(no_mangle)]
 pub extern "C" fn jilafotra_sum(heap: Global, description: &[u8], stream: &[u8]) -> FoldAnswer
-    ensures { StreamTold (Unfolded result) (FoldedThrough result) (loaded description.now)
-        (units_bits 8 (λ b. b) stream.now) (length stream.now) most_bytes TooLong }
+    ensures { StreamTold (Unfolded result) (FoldedThrough sum_with 0 result) (loaded description.now)
+        (byte_bits stream.now) (too_long most_bytes (length stream.now)) }
 {
     folded::<Bytes, Sum>(Checked::load(heap, description), Bytes::new(stream))
 }

@@ -1,23 +1,31 @@
 // The sums of `folds` over the other makes of sources.
-ghost use Rattle.std.specs.Prelude.{◌≡◌, ◌<◌, true, is_err, length};
+ghost use Rattle.std.specs.Prelude.{◌+◌, ◌++◌, length};
+ghost use Rattle.bits.specs.Bits.{part};
 ghost use Rattle.bits.specs.Make.{most_bytes, most_words};
 ghost use Rattle.bits.specs.Units.{units_bits};
-ghost use Rattle.bits.specs.declared.refusal.Refusal.TheVariants.{TooLong};
 ghost use Rattle.table.specs.Loading.{loaded};
-ghost use Rattle.embed.specs.Told.{Unfolded, FoldedThrough, FileTold, StreamTold};
+ghost use Rattle.embed.specs.Folding.{sum_with};
+ghost use Rattle.embed.specs.Sources.{Gives, byte_bits, no_window, too_long};
+ghost use Rattle.embed.specs.Told.{Unfolded, FoldedThrough, StreamTold};
 
 use crate::folds::{FoldAnswer, Sum, folded};
 use bits::bytes::Bytes;
 use bits::join::Join;
 use bits::refusal::Refusal;
+use bits::source::Source;
 use bits::window::Window;
 use bits::words::Words;
 use checked::checked::Checked;
 use std::alloc::Global;
 
 // The bits of some bytes from a place on.
-pub(crate) fn window(bytes: &[u8], first: u32, count: u32) -> Result<Window<Bytes<'_>>, Refusal>
-    ensures { most_bytes < length bytes.now → is_err result ≡ true }
+pub(crate) fn window<'a>(
+    bytes: &'a [u8],
+    first: u32,
+    count: u32,
+) -> Result<Window<Bytes<'a>>, Refusal>
+    ensures { Gives result ⟦<Window<Bytes<'a>> as Source>⟧.bits
+        (part (byte_bits bytes.now) first count) (no_window (length bytes.now) first count) }
 {
     Window::new(Bytes::new(bytes)?, first, count)
 }
@@ -27,7 +35,8 @@ pub(crate) fn join<'a>(
     front: &'a [u8],
     back: &'a [u8],
 ) -> Result<Join<Bytes<'a>, Bytes<'a>>, Refusal>
-    ensures { most_bytes < length front.now → is_err result ≡ true }
+    ensures { Gives result ⟦<Join<Bytes<'a>, Bytes<'a>> as Source>⟧.bits
+        (byte_bits front.now ++ byte_bits back.now) (too_long most_bytes (length front.now + length back.now)) }
 {
     Join::new(Bytes::new(front)?, Bytes::new(back)?)
 }
@@ -35,8 +44,8 @@ pub(crate) fn join<'a>(
 // The sum over the bits of words of 32 bits.
 #[unsafe(no_mangle)]
 pub extern "C" fn jilafotra_sum_words(heap: Global, description: &[u8], words: &[u32]) -> FoldAnswer
-    ensures { StreamTold (Unfolded result) (FoldedThrough result) (loaded description.now)
-        (units_bits 32 (λ w. w) words.now) (length words.now) most_words TooLong }
+    ensures { StreamTold (Unfolded result) (FoldedThrough sum_with 0 result) (loaded description.now)
+        (units_bits 32 (λ w. w) words.now) (too_long most_words (length words.now)) }
 {
     folded::<Words, Sum>(Checked::load(heap, description), Words::new(words))
 }
@@ -50,7 +59,8 @@ pub extern "C" fn jilafotra_sum_window(
     first: u32,
     count: u32,
 ) -> FoldAnswer
-    ensures { FileTold (Unfolded result) (loaded description.now) }
+    ensures { StreamTold (Unfolded result) (FoldedThrough sum_with 0 result) (loaded description.now)
+        (part (byte_bits bytes.now) first count) (no_window (length bytes.now) first count) }
 {
     folded::<Window<Bytes>, Sum>(
         Checked::load(heap, description),
@@ -66,7 +76,8 @@ pub extern "C" fn jilafotra_sum_join(
     front: &[u8],
     back: &[u8],
 ) -> FoldAnswer
-    ensures { FileTold (Unfolded result) (loaded description.now) }
+    ensures { StreamTold (Unfolded result) (FoldedThrough sum_with 0 result) (loaded description.now)
+        (byte_bits front.now ++ byte_bits back.now) (too_long most_bytes (length front.now + length back.now)) }
 {
     folded::<Join<Bytes, Bytes>, Sum>(Checked::load(heap, description), join(front, back))
 }

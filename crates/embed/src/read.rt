@@ -1,13 +1,12 @@
 // Reading a stream into a table of items.
 ghost use Rattle.std.specs.Prelude.{◌≡◌, false, length};
 ghost use Rattle.bits.specs.Make.{most_bytes};
-ghost use Rattle.bits.specs.Units.{units_bits};
-ghost use Rattle.bits.specs.declared.refusal.Refusal.TheVariants.{TooLong};
 ghost use Rattle.table.specs.Description.{description};
 ghost use Rattle.table.specs.Loading.{loaded};
 ghost use Rattle.reading.specs.Reads.{ahead};
 ghost use Rattle.embed.specs.Checking.{accepted};
-ghost use Rattle.embed.specs.Told.{Unstored, Stored, StoredThrough, CameTo, StreamTold};
+ghost use Rattle.embed.specs.Sources.{byte_bits, too_long};
+ghost use Rattle.embed.specs.Told.{unstored, Unstored, Stored, StoredThrough, CameTo, StreamTold};
 
 use crate::answers::{ACCEPTED, CheckAnswer, FaultAnswer, FlatItem, NO_FAULT};
 use bits::bytes::Bytes;
@@ -32,7 +31,7 @@ pub struct ReadAnswer {
 
 // The answer where nothing was read.
 fn nothing(check: CheckAnswer, cause: u32) -> ReadAnswer
-    ensures { Unstored result check cause }
+    ensures { result ≡ unstored check cause }
 {
     ReadAnswer {
         check,
@@ -44,7 +43,7 @@ fn nothing(check: CheckAnswer, cause: u32) -> ReadAnswer
 
 // Stores items until the table is full, which is tested first, or the reading ends.
 fn fill<S: Source + Drop>(mut reading: Reading<S>, table: &mut [FlatItem]) -> ReadAnswer
-    ensures { Stored result (length table.old) (ahead S.bits reading.entry) }
+    ensures { Stored result (ahead S.bits reading.entry) table.old table.new }
 {
     for (count, slot) in table.iter_mut().enumerate() {
         match reading.next() {
@@ -79,7 +78,7 @@ fn read_through<S: Source + Drop>(
     source: S,
     table: &mut [FlatItem],
 ) -> ReadAnswer
-    ensures { StoredThrough result (length table.old) (description checked.now.loaded) (S.bits source) }
+    ensures { StoredThrough result table.old table.new (description checked.now.loaded) (S.bits source) }
 {
     fill(Reading::open(checked, source), table)
 }
@@ -90,7 +89,7 @@ fn stored<S: Source + Drop>(
     source: Result<S, Refusal>,
     table: &mut [FlatItem],
 ) -> ReadAnswer
-    ensures { CameTo (Unstored result) (StoredThrough result (length table.old)) S.bits checked source }
+    ensures { CameTo (Unstored result table.old table.new) (StoredThrough result table.old table.new) S.bits checked source }
 {
     match checked {
         Ok(checked) => match source {
@@ -102,8 +101,7 @@ fn stored<S: Source + Drop>(
 }
 
 // Reads a stream of bytes by a description file, and stores its items. Where there is no more room the table holds the
-// first, and `full` is true: whether the reading would have gone on is then not known. That the table holds the items
-// is only tested; the contract says how many there are, and how the reading ends.
+// first, and `full` is true: whether the reading would have gone on is then not known. Every later slot stays as it is.
 #[unsafe(no_mangle)]
 pub extern "C" fn jilafotra_read(
     heap: Global,
@@ -111,8 +109,8 @@ pub extern "C" fn jilafotra_read(
     stream: &[u8],
     table: &mut [FlatItem],
 ) -> ReadAnswer
-    ensures { StreamTold (Unstored result) (StoredThrough result (length table.old)) (loaded description.now)
-        (units_bits 8 (λ b. b) stream.now) (length stream.now) most_bytes TooLong }
+    ensures { StreamTold (Unstored result table.old table.new) (StoredThrough result table.old table.new) (loaded description.now)
+        (byte_bits stream.now) (too_long most_bytes (length stream.now)) }
 {
     stored(Checked::load(heap, description), Bytes::new(stream), table)
 }

@@ -1,6 +1,10 @@
 // Writing a stream.
+ghost use Rattle.std.specs.Prelude.{◌≡◌};
+ghost use Rattle.table.specs.Description.{description};
 ghost use Rattle.table.specs.Loading.{loaded};
-ghost use Rattle.embed.specs.Writing.{Unwritten};
+ghost use Rattle.writing.specs.Calls.{PutCalled};
+ghost use Rattle.writing.specs.Refusals.{writing_refusal_number};
+ghost use Rattle.embed.specs.Writing.{item_for, wrote, PutAll, Ended, Written, WriteTold};
 
 use crate::answers::{ACCEPTED, CheckAnswer, FlatItem};
 use checked::checked::Checked;
@@ -22,7 +26,9 @@ pub struct WriteAnswer {
 }
 
 // The answer of a writing that was refused after so many items.
-fn refused(items: u64, refusal: WritingRefusal) -> WriteAnswer {
+fn refused(items: u64, refusal: WritingRefusal) -> WriteAnswer
+    ensures { result ≡ wrote items (writing_refusal_number refusal) }
+{
     WriteAnswer {
         check: ACCEPTED,
         items,
@@ -43,7 +49,9 @@ const REFUSED: Item = Item {
 
 // Puts an item. Where no item has the numbers, one that is always refused is put in its place, so that the refusals
 // come in their order: a short buffer first.
-fn put(writing: &mut Writing, item: FlatItem, buffer: &mut [u8]) -> Result<(), WritingRefusal> {
+fn put(writing: &mut Writing, item: FlatItem, buffer: &mut [u8]) -> Result<(), WritingRefusal>
+    ensures { PutCalled writing.old (item_for item) buffer.old result writing.new buffer.new }
+{
     writing.put(item.item().unwrap_or(REFUSED), buffer)
 }
 
@@ -52,7 +60,9 @@ fn put_all(
     writing: &mut Writing,
     items: &[FlatItem],
     buffer: &mut [u8],
-) -> Result<(), (usize, WritingRefusal)> {
+) -> Result<(), (usize, WritingRefusal)>
+    ensures { PutAll writing.old buffer.old items.now result writing.new buffer.new }
+{
     for (count, item) in items.iter().enumerate() {
         if let Err(refusal) = put(writing, *item, buffer) {
             return Err((count, refusal));
@@ -62,7 +72,9 @@ fn put_all(
 }
 
 // Finishes a stream of so many items; where that is refused, it is given up.
-fn finish(writing: Writing, duty: Duty, items: u64, buffer: &mut [u8]) -> WriteAnswer {
+fn finish(writing: Writing, duty: Duty, items: u64, buffer: &mut [u8]) -> WriteAnswer
+    ensures { Ended writing duty items buffer.old result buffer.new }
+{
     match writing.finish(duty, buffer) {
         Ok(_) => WriteAnswer {
             check: ACCEPTED,
@@ -83,7 +95,9 @@ fn finish(writing: Writing, duty: Duty, items: u64, buffer: &mut [u8]) -> WriteA
 }
 
 // Writes a stream of so many bits by a checked description.
-fn write(checked: Checked, items: &[FlatItem], length: u64, buffer: &mut [u8]) -> WriteAnswer {
+fn write(checked: Checked, items: &[FlatItem], length: u64, buffer: &mut [u8]) -> WriteAnswer
+    ensures { Written items.now length buffer.old result buffer.new (description checked.loaded) }
+{
     match Writing::open(checked, length) {
         Ok((mut writing, duty)) => match put_all(&mut writing, items, buffer) {
             Ok(()) => finish(writing, duty, items.len() as u64, buffer),
@@ -97,8 +111,8 @@ fn write(checked: Checked, items: &[FlatItem], length: u64, buffer: &mut [u8]) -
 }
 
 // Writes items as a stream of `length` bits into a buffer, by a description file. Where something is refused the buffer
-// holds what was put before. The contract says what a refused file leaves; what any writing comes to is the law on the
-// contract of `Writing::open`.
+// holds what was put before; where nothing is refused, the bits left read as the items. The contract says which calls of
+// a writing were made.
 #[unsafe(no_mangle)]
 pub extern "C" fn jilafotra_write(
     heap: Global,
@@ -107,7 +121,7 @@ pub extern "C" fn jilafotra_write(
     length: u64,
     buffer: &mut [u8],
 ) -> WriteAnswer
-    ensures { Unwritten (loaded description.now) buffer.old result buffer.new }
+    ensures { WriteTold items.now length buffer.old result buffer.new (loaded description.now) }
 {
     match Checked::load(heap, description) {
         Ok(checked) => write(checked, items, length, buffer),

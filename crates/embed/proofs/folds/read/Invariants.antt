@@ -1,6 +1,7 @@
 use Rattle.reading.specs.Reads.{ahead}
-use Rattle.embed.proofs.Counting.{Counting}
+use Rattle.embed.proofs.Counting.{Taking}
 use Rattle.embed.proofs.folds.read.Given as goal
 
 abbrev pub invariant-loop-items : goal.invariant-loop-items
-invariant-loop-items g l = Counting (ahead g.S.Source.bits l.initial.reading) l.items (ahead g.S.Source.bits l.reading)
+invariant-loop-items g l =
+    Taking g.F.Fold.step g.F.Fold.start (ahead g.S.Source.bits l.initial.reading) l.items (g.F.Fold.so_far l.fold) (ahead g.S.Source.bits l.reading)

@@ -1,13 +1,14 @@
 use Rattle.std.specs.Prelude.{length}
 use Rattle.bits.specs.Make.{most_bytes}
-use Rattle.bits.specs.Units.{units_bits}
-use Rattle.bits.specs.declared.refusal.Refusal.TheVariants.{TooLong}
 use Rattle.table.specs.Loading.{loaded}
+use Rattle.embed.specs.Sources.{byte_bits, too_long}
 use Rattle.embed.specs.Told.{Unstored, StoredThrough}
+use Rattle.embed.proofs.Sources.{units_give}
 use Rattle.embed.proofs.Told.{stream_told}
 use Rattle.embed.proofs.read.jilafotra_read.Goals as goal
 
 pub returns : goal.returns
 returns c =
-    stream_told (Unstored c.stored.result) (StoredThrough c.stored.result (length c.args.table.now)) _ (units_bits 8 (λ x. x) c.args.stream.now) (length c.args.stream.now) most_bytes TooLong
-    (loaded c.args.description.now) c.load.result c.new.result c.load.ensures c.new.ensures c.stored.ensures
+    stream_told (Unstored c.stored.result c.args.table.now c.stored.new.table) (StoredThrough c.stored.result c.args.table.now c.stored.new.table) _ (byte_bits c.args.stream.now)
+    (too_long most_bytes (length c.args.stream.now)) (loaded c.args.description.now) c.load.result c.new.result c.load.ensures
+    (units_give _ c.new.result (byte_bits c.args.stream.now) (length c.args.stream.now) most_bytes c.new.ensures) c.stored.ensures
