@@ -1,11 +1,16 @@
 -- Storing a stretch of a source's bits piece by piece.
-use Rattle.std.proofs.Common.{◌≡◌, ℕ, ◌+◌, ◌-◌, ◌≤◌, min, Bool, List, ◌++◌, length, take, drop, sym, ap, ◌∙◌, arith}
+use Rattle.std.proofs.Common.{◌≡◌, ℕ, ◌+◌, ◌-◌, ◌≤◌, min, Bool, true, List, ◌++◌, length, take, drop, is_ok, sym, ap, ◌∙◌, arith}
+use Rattle.std.proofs.lemmas.Bool.Decides.{nat_tests}
 use Rattle.std.proofs.lemmas.List.{length-append, length-take, append_assoc, take-append-drop, take_at, drop_at, drop-drop}
 use Rattle.bits.specs.Bits.{number, part, bits_of}
-use Rattle.bits.specs.Put.{with_bits}
+use Rattle.bits.specs.Put.{with_bits, put_answer}
 use Rattle.bits.proofs.Numbers.{length_part, part_split}
 use Rattle.bits.proofs.ListLaws.{laws}
 use Rattle.pending.specs.Store.{with_part}
+
+-- few bits that lie in the bytes are stored
+pub can_put : (size p n : ℕ) → n ≤ 32 → p + n ≤ size → is_ok (put_answer size p n) ≡ true
+can_put size p n h k = grind (arith, nat_tests)
 
 -- nothing stored yet
 pub part_none : (l s : List Bool) (from : ℕ) → l ≡ with_part l s from from

@@ -1,5 +1,5 @@
 -- A walk keeps within its windows.
-use Rattle.std.proofs.Common.{◌≡◌, ℕ, suc, ◌+◌, ◌≤◌, min, Bool, true, false, cond, List, [], ◌∷◌, length, get_or, Some, None, Ok, Err, Option, sym, refl, ap, ◌∙◌, subst, arith}
+use Rattle.std.proofs.Common.{◌≡◌, ℕ, suc, ◌+◌, ◌≤◌, min, Bool, true, false, cond, List, [], ◌∷◌, length, get_or, Some, None, Ok, Err, Option, sym, ap, ◌∙◌, subst, arith}
 use Rattle.rules.specs.declared.items.Item.{Item}
 use Rattle.rules.specs.declared.items.Kind.{Kind}
 use Rattle.rules.specs.declared.items.Kind.TheVariants.{Value, Open, Close}

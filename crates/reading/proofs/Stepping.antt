@@ -1,5 +1,5 @@
 -- The open objects, through what is done to them.
-use Rattle.std.proofs.Common.{Some, None, Option, Ok, Err, ◌≡◌, ℕ, zero, suc, ◌+◌, ◌-◌, ◌<◌, ◌≤◌, min, Bool, true, false, cond, not, ◌&&◌, ◌||◌, eqb, ltb, ◌≢◌, List, [], ◌∷◌, length, get_or, drop, set, sym, refl, ap, ◌∙◌, subst, ap₂, arith, get_or-set_same, length-drop}
+use Rattle.std.proofs.Common.{Some, None, Ok, Err, ◌≡◌, ℕ, zero, suc, ◌+◌, ◌-◌, ◌<◌, ◌≤◌, min, Bool, true, false, cond, not, ◌&&◌, ◌||◌, eqb, ltb, ◌≢◌, List, [], ◌∷◌, length, get_or, drop, set, sym, refl, ap, ◌∙◌, subst, ap₂, arith, get_or-set_same, length-drop}
 use Rattle.std.proofs.lemmas.Bool.Decides.{nat_tests}
 use Rattle.std.proofs.lemmas.Bool.{ltb-true}
 use Rattle.std.proofs.lemmas.List.{take_all}
@@ -25,7 +25,7 @@ use Rattle.reading.specs.declared.open_object.Using.{Using}
 use Rattle.reading.specs.declared.open_object.OpenObject.{OpenObject}
 use Rattle.reading.specs.declared.walk.Walk.{Walk}
 use Rattle.reading.specs.Pushes.{Pushed, around}
-use Rattle.reading.specs.Walks.{by_none, no_object, objects_of, rest, rest_from, walk_ahead, Answer, AllFit, Sound, Answered, Turned, beginning, received}
+use Rattle.reading.specs.Walks.{by_none, no_object, objects_of, names_of, rest, rest_from, walk_ahead, Answer, AllFit, Sound, Answered, beginning, received}
 use Rattle.reading.proofs.Entering.{one_receives}
 
 pub known_class : (c g : ℕ) → c ≢ 0 → (not (eqb c 0) || not (eqb g 0)) ≡ true
@@ -165,6 +165,10 @@ module _ (d : Description) (bits : List Bool) (xs : List OpenObject) (i : ℕ) (
   pub left_last : i ≡ 0 → rest_from d bits (around xs i) (received used (state q c) (around xs i)) ≡ rest d bits (around xs i) q
   unfolding tops rest_from
   left_last z = rw z refl
+
+  -- name 0 takes nothing
+  pub left_alone : used.receiving ≡ 0 → rest_from d bits (around xs i) (received used (state q c) (around xs i)) ≡ rest d bits (around xs i) q
+  left_alone z = ap (λ r. rest_from d bits (around xs i) (record { place = q; names = write r (c.names used.carried) (names_of (around xs i)) })) z
 
   pub left_others : 0 < i → (j : Inside) → inner_of j ≡ with_names (write used.receiving (c.names used.carried) (named_by (get_or xs (i - 1) no_object).inside.names)) (inner_of (get_or xs (i - 1) no_object).inside)
       → rest_from d bits (around xs i) (received used (state q c) (around xs i))

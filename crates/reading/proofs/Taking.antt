@@ -1,5 +1,5 @@
 -- Offering an item: steps one after another, and putting a walk back.
-use Rattle.std.proofs.Common.{◌≡◌, ◌≢◌, ℕ, zero, suc, ◌-◌, ◌<◌, ◌≤◌, min, Bool, true, false, not, ◌||◌, eqb, List, ◌∷◌, length, get_or, set, Some, None, Ok, Err, sym, refl, ap, ◌∙◌, subst, ap₂, arith, get_or-set_same, get_or-set_other}
+use Rattle.std.proofs.Common.{◌≡◌, ◌≢◌, ℕ, zero, suc, ◌-◌, ◌<◌, ◌≤◌, min, Bool, true, false, cond, not, ◌||◌, eqb, List, ◌∷◌, length, get_or, set, Some, None, Ok, Err, sym, refl, ap, ◌∙◌, subst, ap₂, arith, get_or-set_same, get_or-set_other}
 use native.Mathlib.Decide.{dec_le}
 use Rattle.std.proofs.lemmas.List.{length-set}
 use Rattle.table.specs.Description.{Description, class_at}
@@ -14,14 +14,12 @@ use Rattle.rules.specs.Steps.{header}
 use Rattle.std.proofs.lemmas.Bool.Decides.{nat_tests}
 use Rattle.roundtrip.specs.Standing.{head, gives, ends}
 use Rattle.objects.specs.Passed.{passed}
-use Rattle.objects.specs.Likewise.{Alike}
 use Rattle.objects.specs.Tops.{tops}
 use Rattle.objects.proofs.Alikes.{alike_self, less_alike}
-use Rattle.reading.specs.declared.offering.Saved.{Saved}
 use Rattle.reading.specs.declared.open_object.OpenObject.{OpenObject}
 use Rattle.reading.specs.declared.walk.Walk.{Walk}
-use Rattle.reading.specs.Offers.{Silent, Came, Advanced, Resumes, saved_of, Over}
-use Rattle.reading.specs.Pushes.{Leaves}
+use Rattle.reading.specs.Offers.{Silent, Came, Advanced, Attempted, Undone, Offered, Declines, Resumes, Over}
+use Rattle.reading.specs.Pushes.{Leaves, Still, innermost_of, hands_on, spared}
 use Rattle.reading.specs.Walks.{Answer, no_object, objects_of, rest, rest_from, walk_ahead, Sound, from_of, EnclosedOnce, EnclosedWalk, Within, Handed, Stepped}
 use Rattle.reading.proofs.Enclosing.{begun_from, not_begun_from, stepped_sound, sight_less}
 use Rattle.reading.proofs.Stepping.{ahead_of, begun_ahead, not_begun_ahead, innermost, none_open, none_sound, sound_near, sound_all, sound_from}
@@ -31,6 +29,17 @@ unfolding head
 head_passed zero t = refl
 head_passed (suc n) t = head_passed n t
 
+-- the innermost object is spared by no answer
+few_spared : (b : Bool) (n j : ℕ) → j < n - cond b 2 1 → j < n - 1
+few_spared true n j l = omega arith
+few_spared false n j l = l
+
+pub spared_few : (w : Walk) (j : ℕ) → j < spared w → j < min w.depth 16 - 1
+spared_few w j l = few_spared (hands_on w) (min w.depth 16) j l
+
+spared_still : (v w : Walk) → Still v w → spared w ≡ spared v
+spared_still v w s = λ t. min (s.depth t) 16 - cond (not (eqb (s.opened t).used.receiving 0)) 2 1
+
 module _ (d : Description) (bits : List Bool) where
   pub silent_none : (v : Walk) → Sound d v → EnclosedWalk (length bits) v → Silent d bits v v
   silent_none v s e =
@@ -39,7 +48,7 @@ module _ (d : Description) (bits : List Bool) where
         sound = s;
         enclosed = e;
         forward = omega arith;
-        still = λ b. record { started = b; depth = refl; kept = λ j l. refl };
+        still = λ b. record { started = b; depth = refl; opened = refl; kept = λ j l. refl };
       }
 
   module _ (v w x : Walk) (s : Silent d bits v w) where
@@ -60,7 +69,7 @@ module _ (d : Description) (bits : List Bool) where
           still = λ st.
               let a = s.still st in
               let c = leaves a.started in
-              record { started = c.started; depth = c.depth ∙ a.depth; kept = λ j l. c.kept j (subst (λ n. j < min n 16 - 1) (sym a.depth) l) ∙ a.kept j l };
+              record { started = c.started; depth = c.depth ∙ a.depth; opened = c.opened ∙ a.opened; kept = λ j l. c.kept j (subst (λ n. j < min n 16 - 1) (sym a.depth) l) ∙ a.kept j l };
         }
 
     last_came : (a : Answer) → Stepped d bits w (Some a) x → Came d bits v a x
@@ -95,7 +104,7 @@ module _ (d : Description) (bits : List Bool) where
           came = last_came a step;
           kept = λ st.
               let b = s.still st in
-              λ j l. leaves b.started j (subst (λ n. j < min n 16 - 2) (sym b.depth) l) ∙ b.kept j (omega arith);
+              λ j l. leaves b.started j (subst (λ n. j < n) (sym (spared_still v w b)) l) ∙ b.kept j (spared_few v j l);
         }
 
   -- another item than what came next does not come next
@@ -113,44 +122,53 @@ unfolding tops
 tops_same none xs ys zero h = refl
 tops_same none xs ys (suc n) h = ap₂ ◌∷◌ (h n (omega arith)) (tops_same none xs ys n (λ j l. h j (omega arith)))
 
--- the two innermost are put back
-put_back : {A : Type 0} (none : A) (xs ys : List A) (n : ℕ) → n ≤ length xs → ((j : ℕ) → j < n - 2 → get_or xs j none ≡ get_or ys j none)
-    → tops none (set (set xs (n - 2) (get_or ys (n - 2) none)) (n - 1) (get_or ys (n - 1) none)) n ≡ tops none ys n
-put_back none xs ys n long kept = tops_same none _ ys n at
-  where
-    below : (j : ℕ) → j < n - 1 → get_or (set xs (n - 2) (get_or ys (n - 2) none)) j none ≡ get_or ys j none
-    below j l =
-        elim (dec_le (n - 2) j) [
-          | yes h ↦ (
-              let e : j ≡ n - 2 = omega arith in
-              subst (λ k. get_or (set xs k (get_or ys k none)) j none ≡ get_or ys j none) e (get_or-set_same xs j (get_or ys j none) none (omega arith)))
-          | no h ↦ (let o : j ≢ n - 2 = omega arith in get_or-set_other xs (n - 2) j (get_or ys (n - 2) none) none o ∙ kept j (omega arith))
-        ]
+-- the innermost is put back
+one_back : {A : Type 0} (none : A) (xs ys : List A) (n : ℕ) → n ≤ length xs → ((j : ℕ) → j < n - 1 → get_or xs j none ≡ get_or ys j none)
+    → (j : ℕ) → j < n → get_or (set xs (n - 1) (get_or ys (n - 1) none)) j none ≡ get_or ys j none
+one_back none xs ys n long kept j l =
+    elim (dec_le (n - 1) j) [
+      | yes h ↦ (
+          let e : j ≡ n - 1 = omega arith in
+          subst (λ m. get_or (set xs m (get_or ys m none)) j none ≡ get_or ys j none) e (get_or-set_same xs j (get_or ys j none) none (omega arith)))
+      | no h ↦ (let o : j ≢ n - 1 = omega arith in get_or-set_other xs (n - 1) j (get_or ys (n - 1) none) none o ∙ kept j (omega arith))
+    ]
 
-    at : (j : ℕ) → j < n → get_or (set (set xs (n - 2) (get_or ys (n - 2) none)) (n - 1) (get_or ys (n - 1) none)) j none ≡ get_or ys j none
-    at j l =
-        let zs = set xs (n - 2) (get_or ys (n - 2) none) in
-        let k = length-set xs (n - 2) (get_or ys (n - 2) none) in
-        elim (dec_le (n - 1) j) [
-          | yes h ↦ (
-              let e : j ≡ n - 1 = omega arith in
-              subst (λ m. get_or (set zs m (get_or ys m none)) j none ≡ get_or ys j none) e (get_or-set_same zs j (get_or ys j none) none (omega arith)))
-          | no h ↦ (let o : j ≢ n - 1 = omega arith in get_or-set_other zs (n - 1) j (get_or ys (n - 1) none) none o ∙ below j (omega arith))
-        ]
+-- and the one around it
+two_back : {A : Type 0} (none : A) (xs ys : List A) (n : ℕ) → n ≤ length xs → ((j : ℕ) → j < n - 2 → get_or xs j none ≡ get_or ys j none)
+    → (j : ℕ) → j < n → get_or (set (set xs (n - 1) (get_or ys (n - 1) none)) (n - 2) (get_or ys (n - 2) none)) j none ≡ get_or ys j none
+two_back none xs ys n long kept j l =
+    let zs = set xs (n - 1) (get_or ys (n - 1) none) in
+    let k = length-set xs (n - 1) (get_or ys (n - 1) none) in
+    elim (dec_le (n - 1) j) [
+      | yes h ↦ (
+          elim (dec_le j (n - 2)) [
+            | yes g ↦ (
+                let e : j ≡ n - 2 = omega arith in
+                subst (λ m. get_or (set zs m (get_or ys m none)) j none ≡ get_or ys j none) e (get_or-set_same zs j (get_or ys j none) none (omega arith)))
+            | no g ↦ (
+                let o : j ≢ n - 2 = omega arith in
+                let e : j ≡ n - 1 = omega arith in
+                get_or-set_other zs (n - 2) j (get_or ys (n - 2) none) none o
+                ∙ subst (λ m. get_or (set xs m (get_or ys m none)) j none ≡ get_or ys j none) e (get_or-set_same xs j (get_or ys j none) none (omega arith)))
+          ])
+      | no h ↦ (
+          elim (dec_le (n - 2) j) [
+            | yes g ↦ (
+                let e : j ≡ n - 2 = omega arith in
+                subst (λ m. get_or (set zs m (get_or ys m none)) j none ≡ get_or ys j none) e (get_or-set_same zs j (get_or ys j none) none (omega arith)))
+            | no g ↦ (
+                let o : j ≢ n - 2 = omega arith in
+                let q : j ≢ n - 1 = omega arith in
+                get_or-set_other zs (n - 2) j (get_or ys (n - 2) none) none o
+                ∙ get_or-set_other xs (n - 1) j (get_or ys (n - 1) none) none q
+                ∙ kept j (omega arith))
+          ])
+    ]
 
-not_true : (b : Bool) → not b ≡ true → b ≡ false
-not_true true e = let z : ◌≡◌ {A = ℕ} 0 1 = cc in absurd (omega arith)
-not_true false e = refl
-
-not_not : (b : Bool) → not b ≡ false → b ≡ true
-not_not true e = refl
-not_not false e = let z : ◌≡◌ {A = ℕ} 0 1 = cc in absurd (omega arith)
-
-module _ (d : Description) (v : Walk) (s : Saved) (is : s ≡ saved_of v) (sound : Sound d v) where
+module _ (d : Description) (v : Walk) (sound : Sound d v) where
   -- a walk that had not begun
-  pub unstarted : (xs : List OpenObject) → not s.started ≡ true → Resumes d v (record { objects = xs; depth = 0; place = 0; started = false })
-  unstarted xs e =
-      let f : v.started ≡ false = sym (ap (λ (x : Saved). x.started) is) ∙ not_true s.started e in
+  unstarted : (xs : List OpenObject) → v.started ≡ false → Resumes d v (record { objects = xs; depth = 0; place = 0; started = false })
+  unstarted xs f =
       record {
         ahead = λ B. sym (not_begun_ahead d B v f);
         sound = none_sound d _ refl refl;
@@ -158,28 +176,59 @@ module _ (d : Description) (v : Walk) (s : Saved) (is : s ≡ saved_of v) (sound
         enclosed = λ L h. tt;
       }
 
-  pub restored : (xs : List OpenObject) (m n : ℕ) → not s.started ≡ false → m ≡ min s.depth 16 - 2 → n ≡ min s.depth 16 - 1 → 16 ≤ length xs
-      → (v.started ≡ true → (j : ℕ) → j < min v.depth 16 - 2 → get_or xs j no_object ≡ get_or v.objects j no_object)
-      → Resumes d v (record { objects = set (set xs m s.outer) n s.inner; depth = s.depth; place = s.place; started = true })
+  -- one that has begun, with the same open objects
+  resumed : (xs : List OpenObject) → v.started ≡ true → ((j : ℕ) → j < min v.depth 16 → get_or xs j no_object ≡ get_or v.objects j no_object)
+      → Resumes d v (record { objects = xs; depth = v.depth; place = v.place; started = true })
   unfolding objects_of
-  restored xs m n e em en long kept =
-      let st : v.started ≡ true = sym (ap (λ (x : Saved). x.started) is) ∙ not_not s.started e in
-      let w : Walk = record { objects = set (set xs m s.outer) n s.inner; depth = s.depth; place = s.place; started = true } in
-      let k = min v.depth 16 in
-      let place : w.place ≡ v.place = ap (λ (x : Saved). x.place) is in
-      let few : k ≤ length xs = omega arith in
-      let same : objects_of w ≡ objects_of v =
-      (λ t. tops no_object (set (set xs (em t) (is t).outer) (en t) (is t).inner) (min (is t).depth 16))
-      ∙ (λ t. tops no_object (set (set xs (min (is t).depth 16 - 2) (saved_of v).outer) (min (is t).depth 16 - 1) (saved_of v).inner) k)
-      ∙ put_back no_object xs v.objects k few (kept st) in
+  resumed xs st all =
+      let w : Walk = record { objects = xs; depth = v.depth; place = v.place; started = true } in
+      let same : objects_of w ≡ objects_of v = tops_same no_object xs v.objects (min v.depth 16) all in
       record {
-        ahead = λ B. ahead_of d B w (objects_of v) v.place refl same place ∙ sym (begun_ahead d B v st);
-        sound = sound_from d w (objects_of v) same (sound_all d v sound) (subst (λ n. n ≤ 2147483647) (sym place) (sound_near d v sound));
-        from = place ∙ sym (begun_from v st);
+        ahead = λ B. ahead_of d B w (objects_of v) v.place refl same refl ∙ sym (begun_ahead d B v st);
+        sound = sound_from d w (objects_of v) same (sound_all d v sound) (sound_near d v sound);
+        from = sym (begun_from v st);
         enclosed = λ L h.
-            subst (λ (X : Type 0). X) (sym (λ t. EnclosedOnce true L (same t) (place t)))
+            subst (λ (X : Type 0). X) (sym (λ t. EnclosedOnce true L (same t) v.place))
             (subst (λ (y : Bool). EnclosedOnce y L (objects_of v) v.place) st h);
       }
+
+  module _ (bits : List Bool) (i : Item) where
+    -- nothing else had to be put back
+    undone_by : (b : Bool) → v.started ≡ b → hands_on v ≡ false → (x : Walk) → length x.objects ≡ 16 → (v.started ≡ true → (j : ℕ) → j < spared v → get_or x.objects j no_object ≡ get_or v.objects j no_object)
+        → (after : Walk) → after ≡ cond b (record { objects = set x.objects (min v.depth 16 - 1) (innermost_of v); depth = v.depth; place = v.place; started = true }) (record { objects = x.objects; depth = 0; place = 0; started = false }) → Resumes d v after
+    undone_by true st other x long kept after back =
+        let few : spared v ≡ min v.depth 16 - 1 = ap (λ (b : Bool). min v.depth 16 - cond b 2 1) other in
+        subst (Resumes d v) (sym back) (resumed (set x.objects (min v.depth 16 - 1) (innermost_of v)) st
+        (one_back no_object x.objects v.objects (min v.depth 16) (omega arith) (λ j l. kept st j (subst (λ n. j < n) (sym few) l))))
+    undone_by false st other x long kept after back = subst (Resumes d v) (sym back) (unstarted x.objects st)
+
+    pub offered_alone : (b : Bool) (after : Walk) → hands_on v ≡ false → Attempted d bits v i b after → Offered d bits v i b after
+    offered_alone true after other h = h
+    offered_alone false after other h =
+        record { other = h.other; resumes = undone_by v.started refl other h.left h.long h.kept after h.back }
+
+    -- the object around the innermost is put back too
+    both_back : (b : Bool) → v.started ≡ b → hands_on v ≡ true → (x : Walk) → length x.objects ≡ 16 → (v.started ≡ true → (j : ℕ) → j < spared v → get_or x.objects j no_object ≡ get_or v.objects j no_object)
+        → (after : Walk) → after ≡ cond b (record { objects = set x.objects (min v.depth 16 - 1) (innermost_of v); depth = v.depth; place = v.place; started = true }) (record { objects = x.objects; depth = 0; place = 0; started = false })
+        → Resumes d v (record { objects = set after.objects (min v.depth 16 - 2) (get_or v.objects (min v.depth 16 - 2) no_object); depth = after.depth; place = after.place; started = after.started })
+    both_back true st hands x long kept after back =
+        let few : spared v ≡ min v.depth 16 - 2 = ap (λ (b : Bool). min v.depth 16 - cond b 2 1) hands in
+        subst (λ (y : Walk). Resumes d v (record { objects = set y.objects (min v.depth 16 - 2) (get_or v.objects (min v.depth 16 - 2) no_object); depth = y.depth; place = y.place; started = y.started })) (sym back)
+        (resumed (set (set x.objects (min v.depth 16 - 1) (innermost_of v)) (min v.depth 16 - 2) (get_or v.objects (min v.depth 16 - 2) no_object)) st
+        (two_back no_object x.objects v.objects (min v.depth 16) (omega arith) (λ j l. kept st j (subst (λ n. j < n) (sym few) l))))
+    both_back false st hands x long kept after back =
+        subst (λ (y : Walk). Resumes d v (record { objects = set y.objects (min v.depth 16 - 2) (get_or v.objects (min v.depth 16 - 2) no_object); depth = y.depth; place = y.place; started = y.started })) (sym back)
+        (unstarted (set x.objects (min v.depth 16 - 2) (get_or v.objects (min v.depth 16 - 2) no_object)) st)
+
+    pub declined_both : (after : Walk) (m : ℕ) (o : OpenObject) → hands_on v ≡ true → m ≡ min v.depth 16 - 2 → o ≡ get_or v.objects m no_object → Undone d bits v i after
+        → Declines d bits v i (record { objects = set after.objects m o; depth = after.depth; place = after.place; started = after.started })
+    declined_both after m o hands em eo h =
+        let whole : o ≡ get_or v.objects (min v.depth 16 - 2) no_object = eo ∙ ap (λ n. get_or v.objects n no_object) em in
+        record {
+          other = h.other;
+          resumes = subst (Resumes d v) (sym (λ t. record { objects = set after.objects (em t) (whole t); depth = after.depth; place = after.place; started = after.started }))
+              (both_back v.started refl hands h.left h.long h.kept after h.back);
+        }
 
 -- a run that goes on after one that hands out something, or goes on, does not end at once
 module _ {A B : Type 0} (k : A → Run B) (u : B) where

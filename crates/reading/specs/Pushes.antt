@@ -1,5 +1,5 @@
 -- What is done to the open objects.
-use Rattle.std.specs.Prelude.{◌≡◌, ℕ, ◌-◌, ◌<◌, ◌≤◌, min, Bool, true, List, ◌∷◌, length, slice_index_or, Some, None, Option}
+use Rattle.std.specs.Prelude.{◌≡◌, ℕ, ◌-◌, ◌<◌, ◌≤◌, min, Bool, true, not, cond, nat_eq, List, ◌∷◌, length, slice_index_or, Some, None, Option}
 use Rattle.table.specs.Description.{Description}
 use Rattle.rules.specs.Trace.{Run, out}
 use Rattle.rules.specs.Reading.{State, close_item, closed}
@@ -16,16 +16,29 @@ use Rattle.reading.specs.Walks.{Answer, objects_of, no_object, capped, seen, rec
 abbrev pub Kept : (n : ℕ) → (before after : Walk) → Type 0
 Kept n v w = (j : ℕ) → j < n → slice_index_or w.objects j no_object ≡ slice_index_or v.objects j no_object
 
--- as many objects are open, and those around the innermost stay
+-- the innermost object, a stand-in where none is open
+abbrev pub innermost_of : Walk → OpenObject
+innermost_of w = slice_index_or w.objects (min w.depth 16 - 1) no_object
+
+-- the innermost object's end gives a value to the object around it
+abbrev pub hands_on : Walk → Bool
+hands_on w = not (nat_eq (innermost_of w).opened.used.receiving 0)
+
+-- how many objects no answer changes: all but the innermost, and but the one around it where that takes a value
+abbrev pub spared : Walk → ℕ
+spared w = min w.depth 16 - cond (hands_on w) 2 1
+
+-- as many objects are open, those around the innermost stay, and the innermost is the same one
 pub record Still (before after : Walk) : Type 0 where
   pub started : after.started ≡ true
   pub depth : after.depth ≡ before.depth
+  pub opened : (innermost_of after).opened ≡ (innermost_of before).opened
   pub kept : Kept (min before.depth 16 - 1) before after
 
--- what a step leaves: where nothing is handed out all but the innermost object, else all but that and the one around it
+-- what a step leaves: where nothing is handed out all but the inside of the innermost object, else what no answer changes
 abbrev pub Leaves : (before : Walk) → Option Answer → (after : Walk) → Type 0
 Leaves v None w = v.started ≡ true → Still v w
-Leaves v (Some a) w = v.started ≡ true → Kept (min v.depth 16 - 2) v w
+Leaves v (Some a) w = v.started ≡ true → Kept (spared v) v w
 
 pub record Pushed (a : OpenObject) (p : ℕ) (before after : Walk) : Type 0 where
   pub objects : objects_of after ≡ a ∷ objects_of before

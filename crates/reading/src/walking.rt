@@ -1,5 +1,5 @@
 // One step of a reading.
-ghost use Rattle.std.specs.Prelude.{◌≡◌, suc, ◌+◌, ◌-◌, ◌*◌, ◌<◌, ◌≤◌, min, Bool, true, false, List, [], ◌∷◌, length, if◌then◌else◌, Ok, Some, nat_eq};
+ghost use Rattle.std.specs.Prelude.{◌≡◌, suc, ◌+◌, ◌-◌, ◌*◌, ◌<◌, ◌≤◌, min, Bool, true, false, cond, List, [], ◌∷◌, length, if◌then◌else◌, Ok, Some, nat_eq};
 ghost use Rattle.table.specs.Description.{Description, description, class_at};
 ghost use Rattle.rules.specs.Lookups.{greatest as greatest_in};
 ghost use Rattle.rules.specs.Order.{declared_at};
@@ -246,15 +246,18 @@ impl Walk {
         requires innermost { min self.old.depth 16 ≡ suc i }
         requires started { self.old.started ≡ true }
         ensures moved { (d : Description) (bits : List Bool) (from : List Bool → Run (Unit {0})) → ((B : List Bool) → length bits ≡ length B → Leaving d B i opened self.old (from B)) → Walked d bits self.old.place from (Enclosed (length bits) (objects_of self.old) self.old.place) (Some result) self.new }
-        ensures kept { Kept (i - 1) self.old self.new }
+        ensures kept { Kept (i - cond (nat_eq opened.used.receiving 0) 0 1) self.old self.new }
     {
-        let value = self.objects[i].inside.name(opened.used.carried);
         let place = place_after(opened, self.place);
         self.place = place;
         self.depth = i;
         if i == 0 {
             return Ok(Some(close_item(opened, place)));
         }
+        if opened.used.receiving == 0 {
+            return Ok(Some(close_item(opened, place)));
+        }
+        let value = self.objects[i].inside.name(opened.used.carried);
         self.objects[i - 1]
             .inside
             .receive(opened.used.receiving, value);
@@ -275,6 +278,19 @@ impl Walk {
         if self.depth == 0 {
             return Some(self.finish(source, count));
         }
+        self.step_inside(source, tables, count)
+    }
+
+    // One step inside the innermost object.
+    fn step_inside<S: Source>(&mut self, source: &S, tables: &Loaded, count: u32) -> Option<Answer>
+        requires sound { Sound (description tables.now) self.old }
+        requires readable { Readable (description tables.now) }
+        requires begun { self.old.started ≡ true }
+        requires some { 0 < self.old.depth }
+        requires whole { count ≡ length (S.bits source.now) }
+        ensures moved { Stepped (description tables.now) (S.bits source.now) self.old result self.new }
+        ensures leaves { Leaves self.old result self.new }
+    {
         let i = innermost(self.depth);
         let scene = Scene {
             source,

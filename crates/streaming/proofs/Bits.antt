@@ -1,5 +1,5 @@
 -- The bits of a page.
-use Rattle.std.proofs.Common.{◌≡◌, ℕ, zero, suc, ◌+◌, ◌-◌, ◌*◌, ◌<◌, ◌≤◌, Bool, false, List, [], ◌∷◌, ◌++◌, length, get_or, take, drop, replicate, ltb, sym, refl, ap, ◌∙◌, arith, ltb→lt, nltb→le}
+use Rattle.std.proofs.Common.{◌≡◌, ℕ, zero, suc, ◌+◌, ◌-◌, ◌*◌, ◌<◌, ◌≤◌, Bool, false, List, ◌++◌, length, get_or, replicate, ltb, sym, refl, ap, ◌∙◌, arith, ltb→lt, nltb→le}
 use Rattle.std.proofs.lemmas.List.{length-append, get_or_past, get_or-append_right}
 use Rattle.rules.proofs.Booleans.{decide}
 use Rattle.roundtrip.proofs.Numbers.{zeros_number}

@@ -1,13 +1,12 @@
 -- What a streaming reading has handed out, by its history.
-use Rattle.std.proofs.Common.{◌≡◌, ℕ, ◌*◌, Bool, List, [], ◌∷◌, ◌++◌, length, Some, None, Ok, Err, sym, ap, ◌∙◌, append_assoc, append-nil}
+use Rattle.std.proofs.Common.{◌≡◌, ◌*◌, Bool, List, [], ◌++◌, sym, ap, ◌∙◌, append_assoc, append-nil}
 use mathlib.Core.List.{append_cancel_left}
-use Rattle.table.specs.Description.{Description, description}
+use Rattle.table.specs.Description.{Description}
 use Rattle.rules.specs.declared.items.Item.{Item}
 use Rattle.rules.specs.Reading.{reading}
-use Rattle.rules.specs.Trace.{Run, out, pass, stop, done, items, outcome, Outcome, ended, refused}
+use Rattle.rules.specs.Trace.{items, outcome, Outcome}
 use Rattle.reading.specs.Calls.{given}
 use Rattle.reading.specs.Histories.{tells}
-use Rattle.reading.specs.Reads.{skipped}
 use Rattle.reading.proofs.Tellings.{skip_items, skip_outcome, told_items, told_outcome, none_left, fault_left, end_answered}
 use Rattle.streaming.specs.declared.state.Streaming.{Streaming}
 use Rattle.streaming.specs.Calls.{ahead, MayHave, Keeps}

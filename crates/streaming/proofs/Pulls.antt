@@ -1,11 +1,10 @@
 -- One step of a streaming reading, by a page.
-use Rattle.std.proofs.Common.{◌≡◌, ℕ, ◌+◌, ◌*◌, ◌/◌, ◌<◌, ◌≤◌, min, Bool, true, leb, List, length, Some, None, Ok, Err, Option, sym, ap, ◌∙◌, arith}
+use Rattle.std.proofs.Common.{◌≡◌, ℕ, ◌+◌, ◌*◌, ◌/◌, ◌≤◌, min, Bool, true, List, length, Some, None, Ok, Err, Option, sym, ap, ◌∙◌, arith}
 use Rattle.std.proofs.lemmas.Bool.Decides.{nat_tests}
 use Rattle.std.proofs.lemmas.Bool.{cond_both}
 use Rattle.table.specs.Description.{Description, description}
-use Rattle.rules.specs.declared.items.Item.{Item}
 use Rattle.rules.specs.declared.faults.ReadingFault.{ReadingFault}
-use Rattle.rules.specs.Trace.{Run, out, pass, stop, done}
+use Rattle.rules.specs.Trace.{Run, out, pass}
 use Rattle.objects.specs.Passed.{passed}
 use Rattle.reading.specs.Reads.{held, skipped, Told}
 use Rattle.reading.proofs.Nexts.{held_none, held_some, skipped_out, skipped_done, skipped_stop}

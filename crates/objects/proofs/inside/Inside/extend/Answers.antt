@@ -1,11 +1,10 @@
 use Rattle.std.proofs.lemmas.Result.{err_from_is_err_and, IfOk-at_ok}
-use Rattle.std.proofs.Common.{rules, ◌≡◌, ◌+◌, ◌<◌, ◌≤◌, Bool, true, false, eqb, List, [], ◌∷◌, length, sym, refl, ap, ◌∙◌, subst, arith}
+use Rattle.std.proofs.Common.{rules, ◌≡◌, ◌+◌, ◌<◌, ◌≤◌, true, false, eqb, List, [], ◌∷◌, length, sym, refl, ap, ◌∙◌, subst, arith}
 use Rattle.table.specs.Description.{Description, description}
 use Rattle.rules.specs.Trace.{stop}
 use Rattle.objects.specs.declared.frame.Frame.{Frame}
 use Rattle.objects.specs.declared.frame.Frame.TheVariants.{Lines}
 use Rattle.objects.specs.Ahead.{inner_of, object_of}
-use Rattle.rules.specs.Steps.{aligned}
 use Rattle.objects.proofs.Alikes.{aligned_alike, aligned_refused}
 use Rattle.objects.proofs.FrameRuns.{no_extension_left, other_extension, extension_fails, extensions_end, extension_begins, extension_room}
 use Rattle.objects.proofs.Tries.{tried_ok, tried_err}

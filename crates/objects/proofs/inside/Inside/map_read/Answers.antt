@@ -1,4 +1,4 @@
-use Rattle.std.proofs.Common.{◌+◌, Bool, List, ◌∷◌, sym, refl, ap, ◌∙◌, arith, to_z-of_z, w64, SFits, rules}
+use Rattle.std.proofs.Common.{◌+◌, ◌∷◌, sym, refl, ap, ◌∙◌, arith, to_z-of_z, w64, SFits, rules}
 use Rattle.std.proofs.lemmas.Result.{err_from_is_err_and, IfOk-at_ok}
 use Rattle.table.specs.Description.{description, map_at}
 use Rattle.rules.specs.Code.{coded}
@@ -7,7 +7,6 @@ use Rattle.rules.specs.declared.steps.Got.{Got}
 use Rattle.rules.specs.Trace.{stop, out}
 use Rattle.rules.specs.Reading.{write}
 use Rattle.rules.specs.Lookups.{map_output}
-use Rattle.rules.specs.Steps.{mapped}
 use Rattle.steps.specs.Took.{Took}
 use Rattle.objects.specs.declared.frame.Frame.{Frame}
 use Rattle.objects.specs.declared.frame.Frame.TheVariants.{Lines}

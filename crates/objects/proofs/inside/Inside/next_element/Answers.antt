@@ -1,4 +1,4 @@
-use Rattle.std.proofs.Common.{◌+◌, Bool, List, sym, refl, ap, ◌∙◌, arith, to_z-of_z, w64, SFits, rules}
+use Rattle.std.proofs.Common.{◌+◌, sym, refl, ap, ◌∙◌, arith, to_z-of_z, w64, SFits, rules}
 use Rattle.std.proofs.lemmas.Result.{err_from_is_err_and, IfOk-at_ok}
 use Rattle.table.specs.Description.{description}
 use Rattle.rules.specs.Trace.{stop, out}
@@ -7,7 +7,6 @@ use Rattle.objects.specs.Ahead.{inner_of, object_of}
 use Rattle.rules.specs.declared.items.Item.{Item}
 use Rattle.rules.specs.declared.steps.Got.{Got}
 use Rattle.rules.specs.Reading.{write}
-use Rattle.rules.specs.Steps.{element}
 use Rattle.steps.specs.Took.{Took}
 use Rattle.records.specs.declared.statements.Statement.TheVariants.{Read}
 use Rattle.objects.specs.Ahead.{inner_run, onto, with_names}

@@ -1,4 +1,4 @@
-use Rattle.std.proofs.Common.{◌+◌, Bool, List, ◌∷◌, sym, refl, ap, ◌∙◌, arith, to_z-of_z, w64, SFits, rules}
+use Rattle.std.proofs.Common.{◌+◌, ◌∷◌, sym, refl, ap, ◌∙◌, arith, to_z-of_z, w64, SFits, rules}
 use Rattle.std.proofs.lemmas.Result.{err_from_is_err_and, IfOk-at_ok}
 use Rattle.table.specs.Description.{description}
 use Rattle.records.specs.declared.statements.Statement.TheVariants.{Read}
@@ -8,7 +8,6 @@ use Rattle.rules.specs.declared.items.Item.{Item}
 use Rattle.rules.specs.declared.steps.Got.{Got}
 use Rattle.rules.specs.Trace.{pass, stop, out}
 use Rattle.rules.specs.Reading.{write}
-use Rattle.rules.specs.Steps.{element}
 use Rattle.steps.specs.Took.{Took}
 use Rattle.objects.specs.declared.frame.Frame.{Frame}
 use Rattle.objects.specs.declared.frame.Frame.TheVariants.{After}
@@ -21,7 +20,7 @@ use Rattle.objects.proofs.Owns.{element_ends}
 use Rattle.objects.proofs.NextLines.{line_named}
 use Rattle.objects.proofs.LineRuns.{one_fails, one_run, one_room}
 use Rattle.objects.proofs.Tries.{tried_ok, tried_err}
-use Rattle.objects.proofs.Sames.{same-inner, gives_at, room_under}
+use Rattle.objects.proofs.Sames.{same-inner, gives_at}
 use Rattle.objects.proofs.inside.Inside.read_one.Goals as goal
 
 pub write-requires : goal.write-requires

@@ -1,4 +1,4 @@
-use Rattle.std.proofs.Common.{◌≡◌, ◌+◌, ◌≤◌, min, arith, Bool, List, length, Ok, Result, subst}
+use Rattle.std.proofs.Common.{◌≡◌, arith, Bool, List, length, Ok, Result, subst}
 use Rattle.table.specs.Description.{description}
 use Rattle.rules.specs.declared.faults.ReadingFault.{ReadingFault}
 use Rattle.objects.specs.declared.moves.Move.{Move}

@@ -1,5 +1,4 @@
 use Rattle.std.proofs.Common.{◌≡◌, Bool, List, length}
-use Rattle.rules.specs.Reading.{Objects}
 use Rattle.objects.specs.Ahead.{inner_of, object_of, inner_run}
 use Rattle.objects.specs.Moves.{InsideFits}
 use Rattle.objects.specs.Passed.{passes}

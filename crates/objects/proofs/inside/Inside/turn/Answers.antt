@@ -1,4 +1,4 @@
-use Rattle.std.proofs.Common.{◌≡◌, Bool, List, ◌∷◌, ap, ◌∙◌, subst}
+use Rattle.std.proofs.Common.{◌≡◌, List, ◌∷◌, ap, ◌∙◌, subst}
 use Rattle.table.specs.Description.{description}
 use Rattle.rules.specs.Reading.{Objects}
 use Rattle.objects.specs.declared.frame.Frame.{Frame}

@@ -17,7 +17,7 @@ use Rattle.reading.specs.Walks.{no_object, rest, rest_from, received, AllFit, En
 use Rattle.reading.specs.declared.open_object.OpenObject.{OpenObject}
 use Rattle.reading.proofs.Enclosing.{left_enclosed, handed_other}
 use Rattle.reading.proofs.Entering.{left_at}
-use Rattle.reading.proofs.Stepping.{popped_objects, ahead_of, sound_from, left_last, left_others, around_next, received-objects, received_fit}
+use Rattle.reading.proofs.Stepping.{popped_objects, ahead_of, sound_from, left_last, left_alone, left_others, around_next, received-objects, received_fit}
 use Rattle.reading.proofs.walk.Walk.leave.Goals as goal
 
 near_after : (b : Bool) (p e n q : ℕ) → q ≡ cond b p (min e n) → p ≤ 2147483647 → n ≤ 2147483647 → q ≤ 2147483647
@@ -65,6 +65,44 @@ returns-then-i-eq0-clause-moved c = λ d bits from leaving.
           handed_other (length bits) w.place item Close _ kind refl (omega (arith, b.0)) (omega arith) c.requires.started
           (subst (λ (os : List OpenObject). Enclosed (length bits) os q) (sym (popped_objects (record { objects = w.objects; depth = c.args.i; place = q; started = w.started }) (omega (arith, c.requires.innermost)))) b.1);
       ends = λ st f. left_own d item _ kind c.close_item.ensures refl;
+    }
+
+pub returns-then-opened-eq0-clause-moved : goal.returns-then-opened-eq0-clause-moved
+returns-then-opened-eq0-clause-moved c = λ d bits from leaving.
+    let item = c.close_item-then-opened-eq0.result in
+    let none : c.args.opened.used.receiving ≡ 0 = omega arith in
+    let kind : item.kind ≡ Close = ap (λ (x : Item). x.kind) c.close_item-then-opened-eq0.ensures in
+    record {
+      moved = λ B alike.
+          let l = leaving B alike.long in
+          let xs = c.args.self.now.objects in
+          let i = c.args.i in
+          let a = (get_or xs i no_object).opened in
+          let b = inner_of (get_or xs i no_object).inside in
+          let p = c.args.self.now.place in
+          let q = c.place_after-place.result in
+          let at : q ≡ cond (eqb a.greatest 0) p (min a.about.window.end (length B)) = c.place_after-place.ensures ∙ ap (λ (x : Opened). cond (eqb x.greatest 0) p x.about.window.end) l.is in
+          let near : q ≤ 2147483647 = near_after (eqb a.greatest 0) p a.about.window.end (length B) q at l.near l.short in
+          let called : close_item a.about.class a.used.line a.used.index q ≡ c.close_item-then-opened-eq0.result = sym (c.close_item-then-opened-eq0.ensures ∙ ap (λ (x : Opened). close_item x.about.class x.used.line x.used.index q) l.is) in
+          let objects = popped_objects (record { objects = xs; depth = i; place = q; started = c.args.self.now.started }) (omega arith) in
+          record {
+            before = l.before;
+            same =
+                l.same ∙ ap (passed l.before) (left_at d B a (around xs i) b p q at
+                ∙ ap (λ (x : Item). out x (rest_from d B (around xs i) (received a.used (state q b) (around xs i)))) called
+                ∙ ap (out c.close_item-then-opened-eq0.result) (left_alone d B xs i a.used q b (ap (λ (x : Opened). x.used.receiving) (sym l.is) ∙ none)
+                ∙ sym (ahead_of d B _ (around xs i) q c.requires.started objects refl)));
+            sound = sound_from d _ (around xs i) objects l.fits near;
+          };
+      bound = λ h.
+          let w = c.args.self.now in
+          let q = c.place_after-place.result in
+          let cut = ap (λ (x : Opened). x.about.window.end) (leaving bits refl).is in
+          let b = left_enclosed (length bits) w c.args.i c.requires.innermost h (get_or w.objects c.args.i no_object) refl c.args.opened.about.window.end cut (eqb c.args.opened.greatest 0) q c.place_after-place.ensures in
+          let at : item.place ≡ q = ap (λ (x : Item). x.place) c.close_item-then-opened-eq0.ensures in
+          handed_other (length bits) w.place item Close _ kind refl (omega (arith, b.0)) (omega arith) c.requires.started
+          (subst (λ (os : List OpenObject). Enclosed (length bits) os q) (sym (popped_objects (record { objects = w.objects; depth = c.args.i; place = q; started = w.started }) (omega (arith, c.requires.innermost)))) b.1);
+      ends = λ st f. left_own d item _ kind c.close_item-then-opened-eq0.ensures refl;
     }
 
 pub returns-clause-moved : goal.returns-clause-moved

@@ -1,12 +1,9 @@
+use Rattle.std.proofs.Common.{◌∙◌, sym}
 use Rattle.table.specs.Description.{description}
-use Rattle.reading.proofs.Taking.{declined}
+use Rattle.reading.proofs.Taking.{offered_alone}
 use Rattle.reading.proofs.walk.Walk.offer.Goals as goal
 
 pub returns : goal.returns
 returns g c =
-    let d = description c.args.tables.now in
-    let v = c.args.self.now in
-    record {
-      other = declined d (g.S.Source.bits c.args.source.now) v c.advance.new.self c.advance.result c.args.wanted c.advance.ensures.came (c.gives.ensures.no c.if-gives.false);
-      resumes = c.restore.ensures d v c.saved-saved.ensures c.requires.sound c.advance.ensures.kept;
-    }
+    offered_alone (description c.args.tables.now) c.args.self.now c.requires.sound (g.S.Source.bits c.args.source.now) c.args.wanted c.attempt.result c.attempt.new.self
+    (sym c.hands_on.ensures ∙ c.if-hands_on.false) c.attempt.ensures

@@ -1,4 +1,4 @@
-use Rattle.std.proofs.Common.{◌≡◌, List, Some, length, sym, refl, ◌∙◌, subst, arith}
+use Rattle.std.proofs.Common.{◌≡◌, List, length, sym, refl, ◌∙◌, subst, arith}
 use Rattle.table.specs.Description.{description}
 use Rattle.rules.specs.Order.{declared_at}
 use Rattle.reading.specs.declared.open_object.Using.{Using}

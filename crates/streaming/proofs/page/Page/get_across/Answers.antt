@@ -1,4 +1,4 @@
-use Rattle.std.proofs.Common.{◌+◌, ◌*◌, ◌-◌, ◌++◌, Bool, false, List, length, replicate, sym, ap, ◌∙◌, arith}
+use Rattle.std.proofs.Common.{◌*◌, ◌-◌, ◌++◌, Bool, false, List, length, replicate, ap, ◌∙◌, arith}
 use lib.ListN.{length-replicate}
 use Rattle.std.proofs.lemmas.List.{length-append}
 use Rattle.bits.specs.Bits.{bits_all, length-bits_all}

@@ -1,4 +1,4 @@
-use Rattle.std.proofs.Common.{◌+◌, ◌*◌, ◌-◌, Bool, List, sym, ap, ◌∙◌, arith}
+use Rattle.std.proofs.Common.{◌*◌, ◌-◌, Bool, List, sym, ap, ◌∙◌, arith}
 use Rattle.bits.specs.Get.{get_answer}
 use Rattle.streaming.proofs.Bits.{page_got}
 use Rattle.streaming.proofs.page.PageSource.get.Goals as goal

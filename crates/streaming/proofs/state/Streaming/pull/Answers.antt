@@ -1,6 +1,5 @@
-use Rattle.std.proofs.Common.{◌≡◌, ℕ, ◌*◌, true, List, length, Some, None, Ok, Err, sym, refl, ap, ◌∙◌, subst, arith}
+use Rattle.std.proofs.Common.{◌≡◌, ℕ, ◌*◌, true, length, Some, None, Ok, Err, sym, refl, ap, ◌∙◌, subst, arith}
 use Rattle.table.specs.Description.{description}
-use Rattle.rules.specs.Trace.{pass}
 use Rattle.objects.proofs.Alikes.{alike_self}
 use Rattle.reading.specs.Reads.{held}
 use Rattle.reading.specs.Walks.{Answer, walk_ahead, Stepped}

@@ -1,4 +1,4 @@
-use Rattle.std.proofs.Common.{◌≤◌, arith}
+use Rattle.std.proofs.Common.{arith}
 use Rattle.table.specs.Description.{description}
 use Rattle.streaming.proofs.Pulls.{from_near}
 use Rattle.streaming.proofs.state.Streaming.wanted.Goals as goal

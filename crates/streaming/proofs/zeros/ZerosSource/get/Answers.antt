@@ -1,4 +1,4 @@
-use Rattle.std.proofs.Common.{◌≡◌, ◌+◌, length, replicate, false, arith}
+use Rattle.std.proofs.Common.{replicate, false, arith}
 use lib.ListN.{length-replicate}
 use Rattle.bits.proofs.Gets.{placed, got}
 use Rattle.streaming.proofs.Bits.{zeros_part}
