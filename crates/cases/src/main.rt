@@ -31,14 +31,16 @@ fn run_all(rt: &HostRuntime) -> anyhow::Result<()> {
     run_descriptions(rt)?;
     run_growth(rt)?;
     let heap = rt.alloc();
-    // writings, call by call
-    run(
-        rt,
-        "write.txt",
-        "",
-        BLOCKS,
-        |case| Ok(Some(written_agrees(heap, case)?)),
-    )?;
+    // writings, call by call; and refusals that those cases lack, reckoned by hand
+    for file in ["write.txt", "refusals.txt"] {
+        run(
+            rt,
+            file,
+            "",
+            BLOCKS,
+            |case| Ok(Some(written_agrees(heap, case)?)),
+        )?;
+    }
     for make in Make::ALL {
         for call in Call::ALL {
             read_all(rt, make, call)?;
@@ -95,21 +97,21 @@ fn run_growth(rt: &HostRuntime) -> anyhow::Result<()> {
 // Runs the cases of readings of whole bytes, piece by piece.
 fn read_by_pieces(rt: &HostRuntime) -> anyhow::Result<()> {
     let heap = rt.alloc();
-    let how = ", piece by piece";
     for file in ["read.txt", "operators.txt"] {
         run(
             rt,
             file,
-            how,
+            ", piece by piece",
             BLOCKS,
             |case| ONLY.agrees_by_pieces(heap, case),
         )?;
     }
     for told in [NEWER, OLDER] {
+        let how = format!(in heap; ", by the {} piece by piece", told.name)?;
         run(
             rt,
             "grow.txt",
-            how,
+            how.as_str(),
             BLOCKS,
             |case| told.agrees_by_pieces(heap, case),
         )?;

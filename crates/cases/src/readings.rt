@@ -9,7 +9,7 @@ use std::alloc::Global;
 // A reading that a case tells: the name before its description, and how the line begins that its items stand after.
 #[derive(Clone, Copy)]
 pub(crate) struct Told {
-    name: &'static str,
+    pub(crate) name: &'static str,
     heading: &'static str,
 }
 

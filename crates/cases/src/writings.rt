@@ -1,6 +1,7 @@
-// Cases of writings: a description, a length, a buffer, calls with their answers, and the buffer after them.
+// Cases of writings: a description, a length, a buffer, calls with their answers, and the buffer after them. Where the
+// opening is refused, a line 'open' says why.
 use crate::lines::{bytes_of, description_after, item_of, lines_after, words_after};
-use anyhow::{Context, anyhow};
+use anyhow::Context;
 use checked::checked::Checked;
 use std::alloc::Global;
 use writing::finish::Unfinished;
@@ -37,7 +38,10 @@ fn calls_agree(
             let word = words_after(case, "finish").next().context("no finish")?;
             Ok(puts? && says(word, refusal))
         }
-        Err(unopened) => Err(anyhow!("not opened: {}", unopened.refusal)),
+        Err(unopened) => {
+            let word = words_after(case, "open").next().context("not opened")?;
+            Ok(says(word, Some(unopened.refusal)))
+        }
     }
 }
 
