@@ -1,14 +1,16 @@
 #!/usr/bin/env bash
-# Asks the interpreter in plain Rust (bench/baseline) about the files that the program `edges` makes, and compares its answers with what
-# the program's file stdout says. Build both first: `cargo build --release` in bench/baseline, `rt run` in crates/edges. It takes
-# 0.6 GB in the folder for what is made for a short time.
+# Makes the files of the edges anew, compares them with those of crates/edges/data, asks the interpreter in plain Rust (bench/baseline) about
+# them, and compares its answers with what the program's file stdout says. Build the interpreter first: `cargo build --release` in
+# bench/baseline. It takes 0.3 GB in the folder for what is made for a short time.
 set -euo pipefail
 cd "$(dirname "$0")/.."
 baseline=$PWD/bench/baseline/target/release/baseline
 made=$(mktemp -d)
 trap 'rm -rf "$made"' EXIT
-crates/edges/out/edges "$made" > "$made/said"
-cmp "$made/said" crates/edges/stdout
+tools/make_edges.py "$made"
+for file in crates/edges/data/*; do
+    cmp "$file" "$made/$(basename "$file")"
+done
 differ=0
 asked=0
 while IFS= read -r line; do

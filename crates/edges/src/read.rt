@@ -1,12 +1,9 @@
-// Reading an edge to its end, and what is said of it.
-use crate::draft::Draft;
+// Reading a source to its end, and what is said of it.
 use anyhow::anyhow;
-use bits::bytes::Bytes;
 use bits::source::Source;
 use checked::checked::Checked;
 use reading::state::Reading;
 use rules::items::{Item, Kind};
-use std::fs;
 
 // What has been handed out: how many items, the sum of all their numbers, and how many objects are open, now and at
 // most.
@@ -46,69 +43,34 @@ fn plus(sum: i64, item: Item) -> i64 {
         .wrapping_add(i64::from(item.length))
 }
 
-// Where the edges are printed, and the folder for their files, if the program was given one.
-#[derive(Drop)]
-pub(crate) struct Report<'r> {
-    pub(crate) rt: &'r HostRuntime,
-    pub(crate) folder: Option<String>,
-}
-
-impl Report<'_> {
-    // Checks a description, reads bytes by it, and prints what comes of both.
-    pub(crate) fn edge(&self, name: &str, draft: &Draft, stream: &[u8]) -> anyhow::Result<()> {
-        let heap = self.rt.alloc();
-        let file = draft.file(heap)?;
-        self.keep(name, file.as_slice(), stream)?;
-        match Checked::load(heap, file.as_slice()) {
-            Ok(checked) => self.read(name, &checked, Bytes::new(stream)?),
+// Reads a source to its end or its fault, and prints how many items there are, the sum of all their numbers, how it
+// ends, and how many objects were open at once.
+pub(crate) fn read<S: Source + Drop>(
+    rt: &HostRuntime,
+    name: &str,
+    checked: &Checked,
+    source: S,
+) -> anyhow::Result<()> {
+    let mut reading = Reading::open(checked, source);
+    let mut tally = Tally::default();
+    for _ in 0..u64::MAX {
+        match reading.next() {
+            Ok(Some(item)) => tally = tally.with(item),
+            Ok(None) => {
+                println!(rt;
+                    "{name}: {} {} end, {} open",
+                    tally.items, tally.sum, tally.deepest
+                )?;
+                return Ok(());
+            }
             Err(fault) => {
-                println!(self.rt; "{name}: refused {fault}")?;
-                Ok(())
+                println!(rt;
+                    "{name}: {} {} refused {fault}, {} open",
+                    tally.items, tally.sum, tally.deepest
+                )?;
+                return Ok(());
             }
         }
     }
-
-    // Writes the files of an edge, which another reader may be given.
-    fn keep(&self, name: &str, description: &[u8], stream: &[u8]) -> anyhow::Result<()> {
-        if let Some(folder) = &self.folder {
-            let heap = self.rt.alloc();
-            let table = format!(in heap; "{folder}/{name}.sdt")?;
-            fs::write(self.rt, table.as_str(), description)?;
-            let bits = format!(in heap; "{folder}/{name}.bin")?;
-            fs::write(self.rt, bits.as_str(), stream)?;
-        }
-        Ok(())
-    }
-
-    // Reads a source to its end or its fault, and prints how many items there are, the sum of all their numbers, how it
-    // ends, and how many objects were open at once.
-    pub(crate) fn read<S: Source + Drop>(
-        &self,
-        name: &str,
-        checked: &Checked,
-        source: S,
-    ) -> anyhow::Result<()> {
-        let mut reading = Reading::open(checked, source);
-        let mut tally = Tally::default();
-        for _ in 0..u64::MAX {
-            match reading.next() {
-                Ok(Some(item)) => tally = tally.with(item),
-                Ok(None) => {
-                    println!(self.rt;
-                        "{name}: {} {} end, {} open",
-                        tally.items, tally.sum, tally.deepest
-                    )?;
-                    return Ok(());
-                }
-                Err(fault) => {
-                    println!(self.rt;
-                        "{name}: {} {} refused {fault}, {} open",
-                        tally.items, tally.sum, tally.deepest
-                    )?;
-                    return Ok(());
-                }
-            }
-        }
-        Err(anyhow!("more items than a number can count"))
-    }
+    Err(anyhow!("more items than a number can count"))
 }
