@@ -1,4 +1,4 @@
-// items: reads a stream by a description, and prints its items.
+// items: reads a stream by a description, piece by piece, and prints its items, and the end or the fault.
 #![tactic(auto)]
 
 mod pieces;

@@ -1,4 +1,4 @@
-// Compares sources of every kind, and stored bits, with readings bit by bit.
+// sources: compares sources of every make, piled up, and stored bits with readings bit by bit.
 #![tactic(auto)]
 
 mod expected;
