@@ -1,11 +1,11 @@
-// The gets of gets.rt.txt written by hand over slices, as the baseline.
+// The gets of gets.rt.txt written by hand over slices, as the baseline: those of trials/, and a loop over the bytes.
+#[path = "trials/src/gets.rs"]
+#[allow(dead_code)]
+mod gets;
+
+use gets::{get_bytes, get_join, get_window, get_words, Refusal};
 use std::hint::black_box;
 use std::io::Read;
-
-pub enum Refusal {
-    TooWide,
-    PastEnd,
-}
 
 // Byte by byte over the bytes that the bits touch.
 fn get_bytes_loop(bytes: &[u8], p: u32, n: u32) -> Result<u64, Refusal> {
@@ -23,63 +23,6 @@ fn get_bytes_loop(bytes: &[u8], p: u32, n: u32) -> Result<u64, Refusal> {
     }
     let past = last as u32 * 8 - (p + n);
     Ok(whole >> past & ((1 << n) - 1))
-}
-
-// Five bytes at once where there are five.
-fn get_bytes(bytes: &[u8], p: u32, n: u32) -> Result<u64, Refusal> {
-    if n > 32 {
-        return Err(Refusal::TooWide);
-    }
-    if p as usize + n as usize > bytes.len() * 8 {
-        return Err(Refusal::PastEnd);
-    }
-    let rest = &bytes[(p / 8) as usize..];
-    let (whole, width) = match rest {
-        [a, b, c, d, e, ..] => ((u32::from_be_bytes([*a, *b, *c, *d]) as u64) << 8 | *e as u64, 40),
-        _ => (rest.iter().fold(0, |w, b| w << 8 | *b as u64), rest.len() as u32 * 8),
-    };
-    Ok(whole >> (width - p % 8 - n) & ((1 << n) - 1))
-}
-
-fn get_words(words: &[u32], p: u32, n: u32) -> Result<u64, Refusal> {
-    if n > 32 {
-        return Err(Refusal::TooWide);
-    }
-    if p as usize + n as usize > words.len() * 32 {
-        return Err(Refusal::PastEnd);
-    }
-    let first = (p / 32) as usize;
-    let last = ((p + n + 31) / 32) as usize;
-    let mut whole = 0u64;
-    for w in &words[first..last] {
-        whole = whole << 32 | *w as u64;
-    }
-    let past = last as u32 * 32 - (p + n);
-    Ok(whole >> past & ((1 << n) - 1))
-}
-
-fn get_window(bytes: &[u8], first: u32, count: u32, p: u32, n: u32) -> Result<u64, Refusal> {
-    if n > 32 {
-        return Err(Refusal::TooWide);
-    }
-    if p as u64 + n as u64 > count as u64 {
-        return Err(Refusal::PastEnd);
-    }
-    get_bytes(bytes, first + p, n)
-}
-
-fn get_join(front: &[u8], back: &[u8], p: u32, n: u32) -> Result<u64, Refusal> {
-    let middle = front.len() as u32 * 8;
-    if p + n <= middle {
-        return get_bytes(front, p, n);
-    }
-    if p >= middle {
-        return get_bytes(back, p - middle, n);
-    }
-    let past = p + n - middle;
-    let high = get_bytes(front, p, middle - p)?;
-    let low = get_bytes(back, 0, past)?;
-    Ok(high << past | low)
 }
 
 // 8,000,000 gets at places 0 to 7999 of widths 1 to 32.
