@@ -24,10 +24,16 @@ pub fn run(folder: &str) -> Outcome {
             answer,
         );
     }
-    for name in ["read.txt", "operators.txt", "write.txt", "grow.txt"] {
+    for name in [
+        "read.txt",
+        "operators.txt",
+        "write.txt",
+        "refusals.txt",
+        "grow.txt",
+    ] {
         let text = read_text(&path(name))?;
         let answer = match name {
-            "write.txt" => write_case,
+            "write.txt" | "refusals.txt" => write_case,
             "grow.txt" => grow_case,
             _ => read_case,
         };
