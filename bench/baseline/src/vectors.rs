@@ -31,6 +31,10 @@ pub fn run(folder: &str) -> Outcome {
         "refusals.txt",
         "grow.txt",
     ] {
+        // the only file that a folder may lack
+        if name == "refusals.txt" && !Path::new(&path(name)).exists() {
+            continue;
+        }
         let text = read_text(&path(name))?;
         let answer = match name {
             "write.txt" | "refusals.txt" => write_case,
