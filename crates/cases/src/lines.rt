@@ -37,23 +37,21 @@ pub(crate) fn description_after(heap: Global, case: &str, name: &str) -> anyhow:
     ))
 }
 
-// The numbers of a line, which has so many.
-fn numbers_of<const N: usize>(line: &str) -> anyhow::Result<[i64; N]> {
+// The numbers of a line, where it has so many.
+fn numbers_of<const N: usize>(line: &str) -> Option<[i64; N]> {
     let mut numbers = [0; N];
     let mut words = line.split_whitespace();
     for number in numbers.iter_mut() {
-        let word = words.next().context("a line with too few numbers")?;
-        *number = word.parse::<i64>()?;
+        *number = words.next()?.parse().ok()?;
     }
-    if words.next().is_some() {
-        return Err(anyhow!("a line with too many numbers"));
-    }
-    Ok(numbers)
+    words.next().is_none().then_some(numbers)
 }
 
 // The item that seven numbers write.
 pub(crate) fn item_of(line: &str) -> anyhow::Result<Item> {
-    let [kind, line, class, index, value, place, length] = numbers_of::<7>(line)?;
+    let [kind, line, class, index, value, place, length] = numbers_of::<7>(line).context(
+        "a line that is not seven numbers",
+    )?;
     Ok(Item {
         kind: Kind::try_from(u16::try_from(kind)?)?,
         line: u16::try_from(line)?,
@@ -67,7 +65,7 @@ pub(crate) fn item_of(line: &str) -> anyhow::Result<Item> {
 
 // A fault of the line, node and place that four numbers write. Striking asks nothing of the cause.
 pub(crate) fn fault_of(line: &str) -> anyhow::Result<ReadingFault> {
-    let [_, line, node, place] = numbers_of::<4>(line)?;
+    let [_, line, node, place] = numbers_of::<4>(line).context("a line that is not four numbers")?;
     Ok(ReadingFault {
         cause: ReadingCause::Unchecked,
         line: u16::try_from(line)?,

@@ -31,7 +31,7 @@ fn run_all(rt: &HostRuntime) -> anyhow::Result<()> {
     run_descriptions(rt)?;
     run_growth(rt)?;
     let heap = rt.alloc();
-    // writings, call by call; and refusals that those cases lack, reckoned by hand
+    // writings, call by call; and refusals that those cases lack
     for file in ["write.txt", "refusals.txt"] {
         run(
             rt,
