@@ -19,8 +19,8 @@ fn store_piece<S: Source>(buffer: &mut [u8], source: &S, at: u32, to: u32)
 }
 
 // Stores the bits of a source from place `from` up to place `to` into the same places of the buffer; every other bit
-// stays. Where they are not all in the source and in the buffer, it answers false and changes nothing. Few bits are one
-// piece; of more no byte is stored twice: each piece ends on a byte boundary, or at the end.
+// stays. Where they are not all in the source and in the buffer, it answers false and changes nothing. At most 32 bits are
+// one piece. Where there are more, no byte is stored twice: each piece ends on a byte boundary, or at the end.
 pub fn store_bits<S: Source>(buffer: &mut [u8], source: &S, from: u32, to: u32) -> bool
     ensures answer { result ≡ can_store (length (S.bits source.now)) (length buffer.old) from to }
     ensures stored { bits_all 8 buffer.new ≡ (if result then with_part (bits_all 8 buffer.old) (S.bits source.now) from to else bits_all 8 buffer.old) }

@@ -129,7 +129,7 @@ impl OpenObject {
 // That the description is readable is a field of `Reading` and of `Scene`; the steps between hand it on as a
 // `requires`, for a wrapper of the tables would be taken off again at each look-up. That the walk is sound by the
 // description is a field of `Reading` too, which alone has both: a struct that lends them together would be a second
-// `Reading`, to be sound at each of the writes in `push`, `step` and `leave`. The source's length is asked once a step,
+// `Reading`, to be sound at each of the writes in `push`, `step_inside` and `leave`. The source's length is asked once a step,
 // and handed on with its source.
 impl Walk {
     // A reading that has not begun.
