@@ -2,9 +2,9 @@
 use Rattle.std.proofs.Common.{◌≡◌, ℕ, zero, suc, ◌+◌, ◌-◌, ◌*◌, ◌/◌, ◌%◌, ◌^◌, ◌<◌, ◌≤◌, min, Bool, eqb, List, ◌∷◌, ◌++◌, length, get_or, take, drop, set, sym, refl, ap, ◌∙◌, subst, add-zero, add_assoc, mul_assoc, add-mul, add_comm, suc-add, pow-suc, zero-add, arith, drop-cons}
 use native.Mathlib.Nat.{mul-add-div_right, mul-add-mod_self_right}
 use lib.Arith.{digits_lt}
-use lib.Bits.{bit_and, bit_or}
+use lib.Bits.{bit_and}
 use lib.Seq.{drop-append-add}
-use Rattle.std.proofs.lemmas.Nat.{pow_pos, pow-add, shr-shr, shr_below, shr_high, mod_below, div-add-mod', or_shifted, shl_below, shr_le, one_shl, and_mask, shl_whole}
+use Rattle.std.proofs.lemmas.Nat.{pow_pos, pow-add, shr-shr, shr_below, shr_high, mod_below, div-add-mod', one_shl, and_mask, shl_whole, shr_split, mod-pow-add}
 use Rattle.std.proofs.lemmas.List.{length-append, append_assoc, take-append-drop, drop-drop, take_at, drop_at, set_split, length-take}
 use Rattle.bits.specs.Bits.{bits_of, bits_all, length-bits_of, length-bits_all}
 use Rattle.bits.specs.Put.{with_bits, with_piece}
@@ -105,18 +105,15 @@ with_piece_lt b m tail x h k =
     let top : b / 2 ^ (m + tail) < 2 ^ (8 - (m + tail)) = shr_below b (8 - (m + tail)) (m + tail) (subst (λ t. b < 2 ^ t) (sym e) h) in
     subst (λ t. with_piece b m tail x < t) w (digits_lt top (low_lt b m tail x))
 
--- the pieces of a byte put together by ors
-pub or_pieces : (h y low m tail : ℕ) → y < 2 ^ m → low < 2 ^ tail → bit_or (bit_or (h * 2 ^ (m + tail)) (y * 2 ^ tail)) low ≡ h * 2 ^ (m + tail) + (y * 2 ^ tail + low)
-or_pieces h y low m tail f g =
-    let less : y * 2 ^ tail < 2 ^ (m + tail) = omega (arith, shl_below y m tail f) in
-    let two : h * 2 ^ (m + tail) + y * 2 ^ tail ≡ (h * 2 ^ m + y) * 2 ^ tail = simp (pow-add, add-mul, mul_assoc) in
-    rw (or_shifted h (m + tail) (y * 2 ^ tail) less, two, or_shifted (h * 2 ^ m + y) tail low g, ← two) (add_assoc (h * 2 ^ (m + tail)) (y * 2 ^ tail) low)
+-- the m lowest bits of a number, moved up, as shifts and masks of 64 bits make them
+pub masked : (y m tail : ℕ) → m + tail ≤ 8 → (bit_and y ((1 * 2 ^ m) % 2 ^ 64 - 1) * 2 ^ tail) % 2 ^ 64 ≡ y % 2 ^ m * 2 ^ tail
+masked y m tail k =
+    let middle : y % 2 ^ m < 2 ^ m = mod_below y (2 ^ m) (pow_pos m) in
+    rw (one_shl m 64 (omega arith), and_mask y m) (shl_whole (y % 2 ^ m) m tail 64 middle (omega arith))
 
--- the byte that shifts, masks and ors of 64 bits make
-pub masked : (b m tail x : ℕ) → b < 256 → m + tail ≤ 8 → bit_or (bit_or ((b / 2 ^ (m + tail) * 2 ^ (m + tail)) % 2 ^ 64) ((bit_and x ((1 * 2 ^ m) % 2 ^ 64 - 1) * 2 ^ tail) % 2 ^ 64)) (bit_and b ((1 * 2 ^ tail) % 2 ^ 64 - 1)) ≡ with_piece b m tail x
-masked b m tail x h k =
-    let high : b / 2 ^ (m + tail) < 2 ^ 8 = omega (arith, shr_le b (m + tail)) in
-    let middle : x % 2 ^ m < 2 ^ m = mod_below x (2 ^ m) (pow_pos m) in
-    let low : b % 2 ^ tail < 2 ^ tail = mod_below b (2 ^ tail) (pow_pos tail) in
-    rw (one_shl m 64 (omega arith), one_shl tail 64 (omega arith), and_mask x m, and_mask b tail, shl_whole (b / 2 ^ (m + tail)) 8 (m + tail) 64 high (omega arith), shl_whole (x % 2 ^ m) m tail 64 middle (omega arith))
-    (or_pieces (b / 2 ^ (m + tail)) (x % 2 ^ m) (b % 2 ^ tail) m tail middle low)
+-- a byte less its own bits in the middle, and with others there
+pub own_le : (b m tail : ℕ) → b / 2 ^ tail % 2 ^ m * 2 ^ tail ≤ b
+own_le b m tail = omega (arith, shr_split b (m + tail), mod-pow-add b m tail)
+
+pub swapped : (b m tail x : ℕ) → b - b / 2 ^ tail % 2 ^ m * 2 ^ tail + x % 2 ^ m * 2 ^ tail ≡ with_piece b m tail x
+swapped b m tail x = omega (arith, shr_split b (m + tail), mod-pow-add b m tail)

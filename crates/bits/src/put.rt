@@ -28,22 +28,26 @@ fn store(bytes: &mut [u8], p: u32, n: u32, value: u64)
 {
     let start = p as usize;
     let end = start + n as usize;
+    let mut at = start;
+    let mut left = n as usize;
     for i in start / 8..end.div_ceil(8) {
-        let from = start.max(i * 8);
-        let to = end.min(i * 8 + 8);
-        bytes[i] = with_piece(bytes[i], to - from, i * 8 + 8 - to, value >> (end - to));
+        let room = 8 - at % 8;
+        let m = left.min(room);
+        left -= m;
+        bytes[i] = with_piece(bytes[i], m, room - m, value >> left);
+        at += m;
     }
 }
 
-// The byte with the m lowest bits of x above its `tail` lowest bits. By shifts and masks, as the library has no word
-// for bits within a byte.
+// The byte with the m lowest bits of x above its `tail` lowest bits: less its own bits there, and with those of x. By
+// shifts and masks, as the library has no word for bits within a byte.
 fn with_piece(byte: u8, m: usize, tail: usize, x: u64) -> u8
     requires { m + tail ≤ 8 }
     ensures { result ≡ with_piece byte m tail x }
 {
     let old = u64::from(byte);
-    let high = old >> (m + tail) << (m + tail);
-    let middle = (x & ((1 << m) - 1)) << tail;
-    let low = old & ((1 << tail) - 1);
-    (high | middle | low) as u8
+    let mask = (1 << m) - 1;
+    let own = (old >> tail & mask) << tail;
+    let new = (x & mask) << tail;
+    (old - own + new) as u8
 }

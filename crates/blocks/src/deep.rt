@@ -1,7 +1,9 @@
 ghost use Rattle.std.specs.Prelude.{◌≡◌};
 ghost use Rattle.table.specs.Description.{description};
 ghost use Rattle.blocks.specs.Nesting.{deeper};
+ghost use Rattle.blocks.specs.Stretches.{node_depth};
 
+use crate::blocks::DEEPEST;
 use fields::nodes::is_operator;
 use table::loaded::Loaded;
 
@@ -17,4 +19,11 @@ pub(crate) fn deeper(levels: usize, loaded: &Loaded, n: usize) -> bool
     is_operator(node)
         && (deeper(levels - 1, loaded, node.a as usize)
             || deeper(levels - 1, loaded, node.b as usize))
+}
+
+// Whether node n is more than eight deep.
+pub fn node_depth(loaded: &Loaded, n: usize) -> bool
+    ensures { result ≡ node_depth (description loaded.now) n }
+{
+    deeper(DEEPEST, loaded, n)
 }

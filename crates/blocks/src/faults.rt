@@ -2,8 +2,7 @@ ghost use Rattle.std.specs.Prelude.{◌≡◌};
 ghost use Rattle.table.specs.Description.{description};
 ghost use Rattle.blocks.specs.Faults.{outside_fault, stretch_fault, line_depth_fault, node_depth_fault, depth_fault};
 
-use crate::blocks::DEEPEST;
-use crate::deep::deeper;
+use crate::deep::node_depth;
 use crate::holders::{line_depth, line_stretch};
 use crate::stretches::{in_one, some_unsound};
 use passes::naming::pass;
@@ -54,7 +53,7 @@ fn node_depth_fault(loaded: &Loaded) -> Option<Fault>
     ensures { result ≡ node_depth_fault (description loaded.now) }
 {
     pass(Cause::Depth, Table::Nodes, loaded.nodes.len(), |n| {
-        deeper(DEEPEST, loaded, n)
+        node_depth(loaded, n)
     })
 }
 

@@ -1,7 +1,6 @@
-// What the lines of a case write: descriptions, items and faults.
+// What the lines of a case write: descriptions and items.
 use anyhow::{Context, anyhow};
 use checked::checked::Checked;
-use rules::faults::{ReadingCause, ReadingFault};
 use rules::items::{Item, Kind};
 use std::alloc::Global;
 use std::str::{Lines, SplitWhitespace};
@@ -60,16 +59,5 @@ pub(crate) fn item_of(line: &str) -> anyhow::Result<Item> {
         value,
         place: u32::try_from(place)?,
         length: u32::try_from(length)?,
-    })
-}
-
-// A fault of the line, node and place that four numbers write. Striking asks nothing of the cause.
-pub(crate) fn fault_of(line: &str) -> anyhow::Result<ReadingFault> {
-    let [_, line, node, place] = numbers_of::<4>(line).context("a line that is not four numbers")?;
-    Ok(ReadingFault {
-        cause: ReadingCause::Unchecked,
-        line: u16::try_from(line)?,
-        node: u16::try_from(node)?,
-        place: u32::try_from(place)?,
     })
 }

@@ -1,7 +1,9 @@
 // cases: runs the kept cases with known answers, and says how many there are and which of them differ.
 #![tactic(auto)]
 
+mod by_line;
 mod descriptions;
+mod digits;
 mod growth_cases;
 mod lines;
 mod makes;
@@ -14,13 +16,10 @@ mod stream;
 mod tally;
 mod writings;
 
-use descriptions::check_agrees;
-use growth_cases::{grown_agrees, struck_agrees};
 use makes::Make;
-use operators::value_agrees;
 use outcome::Call;
 use readings::{NEWER, OLDER, ONLY};
-use run::{BLOCKS, LINES, run};
+use run::run;
 use writings::written_agrees;
 
 fn main(rt: HostRuntime) -> anyhow::Result<()> {
@@ -28,18 +27,11 @@ fn main(rt: HostRuntime) -> anyhow::Result<()> {
 }
 
 fn run_all(rt: &HostRuntime) -> anyhow::Result<()> {
-    run_descriptions(rt)?;
-    run_growth(rt)?;
+    run_by_line(rt)?;
     let heap = rt.alloc();
     // writings, call by call; and refusals that those cases lack
     for file in ["write.txt", "refusals.txt"] {
-        run(
-            rt,
-            file,
-            "",
-            BLOCKS,
-            |case| Ok(Some(written_agrees(heap, case)?)),
-        )?;
+        run(rt, file, "", |case| Ok(Some(written_agrees(heap, case)?)))?;
     }
     for make in Make::ALL {
         for call in Call::ALL {
@@ -49,49 +41,19 @@ fn run_all(rt: &HostRuntime) -> anyhow::Result<()> {
     read_by_pieces(rt)
 }
 
-// Runs the cases of a description alone: is it accepted, and what are its nodes' values?
-fn run_descriptions(rt: &HostRuntime) -> anyhow::Result<()> {
-    let heap = rt.alloc();
-    // answers that two independent models of the rules agree on; and each table at its largest count, and with one
-    // record more
-    for file in ["check.txt", "limits.txt"] {
-        run(
-            rt,
-            file,
-            "",
-            LINES,
-            |case| Ok(Some(check_agrees(heap, case)?)),
-        )?;
-    }
+// Runs the cases that are gone through line by line: is a description accepted, what are its nodes' values, and what is
+// there for an older description in a newer one?
+fn run_by_line(rt: &HostRuntime) -> anyhow::Result<()> {
+    // answers that two independent models of the rules agree on
+    descriptions::run(rt, "check.txt")?;
+    // each table at its largest count, and with one record more
+    descriptions::run(rt, "limits.txt")?;
     // the value of one operator in each case
-    run(
-        rt,
-        "operators.txt",
-        ", by evaluation",
-        BLOCKS,
-        |case| Ok(Some(value_agrees(heap, case)?)),
-    )
-}
-
-// Runs the cases of an older and a newer description.
-fn run_growth(rt: &HostRuntime) -> anyhow::Result<()> {
-    let heap = rt.alloc();
-    // whether the newer has grown from the older
-    run(
-        rt,
-        "grown.txt",
-        "",
-        LINES,
-        |case| Ok(Some(grown_agrees(heap, case)?)),
-    )?;
+    operators::run(rt)?;
+    // whether a newer description has grown from an older one
+    growth_cases::run(rt, "grown.txt")?;
     // and what is struck of the newer's items
-    run(
-        rt,
-        "grow.txt",
-        "",
-        BLOCKS,
-        |case| Ok(Some(grown_agrees(heap, case)? && struck_agrees(heap, case)?)),
-    )
+    growth_cases::run(rt, "grow.txt")
 }
 
 // Runs the cases of readings of whole bytes, piece by piece.
@@ -102,7 +64,6 @@ fn read_by_pieces(rt: &HostRuntime) -> anyhow::Result<()> {
             rt,
             file,
             ", piece by piece",
-            BLOCKS,
             |case| ONLY.agrees_by_pieces(heap, case),
         )?;
     }
@@ -112,7 +73,6 @@ fn read_by_pieces(rt: &HostRuntime) -> anyhow::Result<()> {
             rt,
             "grow.txt",
             how.as_str(),
-            BLOCKS,
             |case| told.agrees_by_pieces(heap, case),
         )?;
     }
@@ -129,7 +89,6 @@ fn read_all(rt: &HostRuntime, make: Make, call: Call) -> anyhow::Result<()> {
         rt,
         "read.txt",
         how,
-        BLOCKS,
         |case| Ok(Some(ONLY.agrees(heap, case, make, call)?)),
     )?;
     // and of those of one operator
@@ -137,7 +96,6 @@ fn read_all(rt: &HostRuntime, make: Make, call: Call) -> anyhow::Result<()> {
         rt,
         "operators.txt",
         how,
-        BLOCKS,
         |case| Ok(Some(ONLY.agrees(heap, case, make, call)?)),
     )?;
     // readings by an older and a newer description
@@ -145,7 +103,6 @@ fn read_all(rt: &HostRuntime, make: Make, call: Call) -> anyhow::Result<()> {
         rt,
         "grow.txt",
         how,
-        BLOCKS,
         |case| Ok(Some(
             NEWER.agrees(heap, case, make, call)? && OLDER.agrees(heap, case, make, call)?,
         )),

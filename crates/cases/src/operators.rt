@@ -1,13 +1,16 @@
 // Cases of one operator each. A description has three lines: the first two read the operands into names 1 and 2, and
 // the third reads a number that has to be the value of node 4, the operator's, since that is both its lowest and its
 // highest.
-use crate::lines::{description_after, item_of, lines_after};
-use crate::stream::Stream;
+use crate::by_line::{description_of, item_of};
+use crate::digits::digit;
+use crate::tally::Tally;
 use anyhow::Context;
+use checked::checked::Checked;
 use records::statements::{ReadLine, Statement};
 use rules::faults::{Failure, ReadingCause, ReadingFault};
 use rules::items::{Item, Kind};
 use std::alloc::{AllocError, Global};
+use std::fs;
 use values::evaluate::Scope;
 
 // The node of the operator.
@@ -18,30 +21,80 @@ const LINE: u16 = 3;
 
 const PLACE: u32 = 64;
 
-// Whether the third line gives what the case says, by the value of the operator.
-pub(crate) fn value_agrees(heap: Global, case: &str) -> anyhow::Result<bool> {
-    let mut lines = lines_after(case, "2 0 1 ");
-    let first = item_of(lines.next().context("a case without operands")?)?;
-    let second = item_of(lines.next().context("a case with one operand")?)?;
-    let expected = lines.next().context("a case without an answer")?;
-    let description = description_after(heap, case, "description")?;
-    let tables = description.tables();
-    let names = [first.value, second.value];
-    let scope = Scope {
-        nodes: tables.nodes.as_slice(),
-        names: &names,
-        size: 0,
+// One case as far as it was read.
+#[derive(Drop)]
+struct Case {
+    description: Option<Checked>,
+    // the operands
+    first: i64,
+    second: i64,
+    // the number that the third line reads, if it is unsigned
+    third: u32,
+}
+
+// Runs the cases of operators.txt by evaluation alone, and prints which differ and how many there are.
+pub(crate) fn run(rt: &HostRuntime) -> anyhow::Result<()> {
+    let text = fs::read_to_string(rt, "operators.txt")?;
+    let mut case = Case {
+        description: None,
+        first: 0,
+        second: 0,
+        third: 0,
     };
-    let stream = Stream::of(heap, case)?;
-    let number = *stream.words.get(2).context("a case with fewer bits")?;
-    let third = tables.statement(LINE as usize);
-    let read = if matches!(third, Some(Statement::Read(ReadLine { signed: true, .. }))) {
-        i64::from(number.cast_signed())
-    } else {
-        i64::from(number)
-    };
-    let answer = shown(heap, third_line(scope.value(OPERATOR), read))?;
-    Ok(answer.as_str() == expected)
+    let mut tally = Tally::default();
+    for line in text.as_str().lines() {
+        if line.starts_with("case") {
+            tally.begin();
+        } else if !case.take(rt.alloc(), line)? {
+            let number = tally.differs();
+            println!(rt; "operators.txt, case {number} differs")?;
+        }
+    }
+    println!(rt; "operators.txt, by evaluation: {tally}")?;
+    Ok(())
+}
+
+impl Case {
+    // Takes one line of the case. False where it is the answer of the third line, and another one is worked out.
+    fn take(&mut self, heap: Global, line: &str) -> anyhow::Result<bool> {
+        if let Some(text) = line.strip_prefix("description ") {
+            self.description = Some(description_of(heap, text)?);
+        } else if let Some(text) = line.strip_prefix("bits 96 ") {
+            self.third = third_number(text)?;
+        } else if line.starts_with("1 1 ") {
+            self.first = item_of(heap, line)?.value;
+        } else if line.starts_with("1 2 ") {
+            self.second = item_of(heap, line)?.value;
+        } else if line.starts_with("1 3 ") || line.starts_with("refused ") {
+            let answer = shown(heap, self.answer()?)?;
+            return Ok(answer.as_str() == line);
+        }
+        Ok(true)
+    }
+
+    // What the third line gives, by the value of the operator.
+    fn answer(&self) -> anyhow::Result<Result<Item, ReadingFault>> {
+        let description = self
+            .description
+            .as_ref()
+            .context("a case without a description")?;
+        let tables = description.tables();
+        let line = tables
+            .statement(LINE as usize)
+            .context("a case with fewer than three lines")?;
+        let read = if matches!(line, Statement::Read(ReadLine { signed: true, .. })) {
+            i64::from(self.third.cast_signed())
+        } else {
+            i64::from(self.third)
+        };
+        let names = [self.first, self.second];
+        let scope = Scope {
+            nodes: tables.nodes.as_slice(),
+            names: &names,
+            size: 0,
+        };
+        Ok(third_line(scope.value(OPERATOR), read))
+    }
 }
 
 // What the third line gives where it reads a number: an item if that is the value, else a fault.
@@ -67,4 +120,14 @@ fn shown(heap: Global, answer: Result<Item, ReadingFault>) -> Result<String, All
         Ok(item) => format!(in heap; "{item}"),
         Err(fault) => format!(in heap; "refused {fault}"),
     }
+}
+
+// The number that the hexadecimal digits after those of the operands write.
+fn third_number(text: &str) -> anyhow::Result<u32> {
+    let mut number = 0u32;
+    for c in text.bytes().skip(16) {
+        let value = digit(c).context("not hexadecimal")?;
+        number = number.wrapping_mul(16).wrapping_add(u32::from(value));
+    }
+    Ok(number)
 }

@@ -1,7 +1,7 @@
 use std::fmt;
 
-// How many cases of a file were run, and how many of them differ. No tally in common with `sources`, which adds up
-// comparisons that are counted at their end, of a number that is proved, and says them in other words.
+// How many cases of a file were run, and how many of their answers differ. No tally in common with `sources`, which
+// adds up comparisons that are counted at their end, of a number that is proved, and says them in other words.
 #[derive(Clone, Copy, Default)]
 pub(crate) struct Tally {
     cases: u32,

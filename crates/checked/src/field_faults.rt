@@ -7,7 +7,8 @@ ghost use Rattle.passes.specs.Naming.{named};
 ghost use Rattle.checked.specs.Fields.{top_field_fault, field_fault};
 
 use fields::tables::top_fine;
-use passes::naming::{of_top, pass};
+use passes::first::first;
+use passes::naming::{named, of_top};
 use records::counts::Counts;
 use records::faults::{Cause, Fault, Table};
 use table::loaded::Loaded;
@@ -20,13 +21,18 @@ fn top_field_fault(loaded: &Loaded) -> Option<Fault>
     of_top(Cause::Field, !top_fine(loaded.counts(), loaded.top))
 }
 
-// The first record of a table whose fields are not fine, whatever the kind.
+// The first record of a table that breaks the rule for its fields, whatever the kind.
+pub fn first_broken<R: Record>(records: &[R], counts: Counts) -> Option<usize>
+    ensures { result ≡ first_upto (broken_at (R.broken counts) R.none records.now) (length records.now) }
+{
+    first(records.len(), |n| record_at(records, n).breaks(counts, n))
+}
+
+// That record of a table, as a fault.
 fn table_field_fault<R: Record>(table: Table, records: &[R], counts: Counts) -> Option<Fault>
     ensures { result ≡ named Field table (first_upto (broken_at (R.broken counts) R.none records.now) (length records.now)) }
 {
-    pass(Cause::Field, table, records.len(), |n| {
-        record_at(records, n).breaks(counts, n)
-    })
+    named(Cause::Field, table, first_broken(records, counts))
 }
 
 // The first record whose fields are not fine; any row will do.

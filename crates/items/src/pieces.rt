@@ -1,11 +1,12 @@
 // A stream's file, piece by piece.
+ghost use Rattle.std.specs.Prelude.{◌≤◌, vec_len};
 
 use std::fs::{File, OpenFile};
+use std::io;
 use std::io::{ErrorKind, Read, Seek, SeekFrom};
-use std::{fs, io};
 use streaming::state::Wanted;
 
-// As many bytes as are kept at once, of a file that can be read from any place.
+// As many bytes as are kept at once, at most, of a file that can be read from any place.
 const ROOM: usize = 65_536;
 
 // Some bytes of a stream, and where to read on. Each byte is read at most once, so that a file which changes meanwhile
@@ -18,31 +19,40 @@ pub(crate) struct Pieces {
     // how many of the bytes are the stream's, and the number of the first
     filled: usize,
     first: u32,
+    // how many bytes the stream has; what the file gains after it was opened is not the stream's
+    length: u64,
 }
 
 impl Pieces {
-    // The stream of a file, and its length. A pipe, whose length is not known, is read at once.
+    // The stream of a file, and its length. What does not say its length, as a pipe, is read at once, by the same handle:
+    // a named pipe that is opened again waits for another writer.
     pub(crate) fn open(rt: &HostRuntime, name: &str) -> io::Result<(Pieces, u64)> {
-        let file = File::open(rt, name)?;
+        let mut file = File::open(rt, name)?;
         let about = file.metadata()?;
-        if about.is_file() {
+        if about.is_file() && about.len() > 0 {
+            let length = about.len();
+            let room = usize::try_from(length).unwrap_or(ROOM).min(ROOM);
             let pieces = Pieces {
                 file: Some(file),
-                bytes: vec![in rt.alloc(); 0u8; ROOM]?,
+                bytes: vec![in rt.alloc(); 0u8; room]?,
                 filled: 0,
                 first: 0,
+                length,
             };
-            return Ok((pieces, about.len()));
+            return Ok((pieces, length));
         }
-        let bytes = fs::read(rt, name)?;
-        let length = bytes.len();
+        let mut bytes = Vec::new(rt.alloc());
+        file.read_to_end(&mut bytes)?;
+        let filled = bytes.len();
+        let length = filled as u64;
         let pieces = Pieces {
             file: None,
             bytes,
-            filled: length,
+            filled,
             first: 0,
+            length,
         };
-        Ok((pieces, length as u64))
+        Ok((pieces, length))
     }
 
     // The number of the first byte that is there.
@@ -89,15 +99,28 @@ impl Pieces {
         Ok(())
     }
 
-    // Fills the room with the next bytes, as far as the file has any.
+    // How many bytes there may be from the first on: as many as there is room for, and none past the stream's end.
+    fn most(&self) -> usize
+        ensures { result ≤ vec_len self.now.bytes }
+    {
+        let left = self.length.saturating_sub(u64::from(self.first));
+        usize::try_from(left)
+            .unwrap_or(self.bytes.len())
+            .min(self.bytes.len())
+    }
+
+    // Fills the room with the next bytes of the stream, as far as the file has any. A read that a signal interrupts is
+    // tried again.
     fn fill(&mut self, file: &mut File) -> io::Result<()> {
         for _ in 0..self.bytes.len() {
-            let filled = self.filled.min(self.bytes.len());
-            let read = file.read(&mut self.bytes[filled..])?;
-            if read == 0 {
-                break;
+            let most = self.most();
+            let filled = self.filled.min(most);
+            match file.read(&mut self.bytes[filled..most]) {
+                Ok(0) => break,
+                Ok(read) => self.filled = filled + read,
+                Err(error) if error.kind() == ErrorKind::Interrupted => {}
+                Err(error) => return Err(error),
             }
-            self.filled = filled + read;
         }
         Ok(())
     }

@@ -2,7 +2,7 @@
 use Rattle.std.proofs.Common.{◌≡◌, ℕ, zero, suc, ◌+◌, ◌<◌, ◌≤◌, List, length, get_or, Option, Some, None, refl, ap, subst, ◌∙◌, inl, inr, arith}
 use denote.Param.Members.{Mut}
 use Rattle.std.proofs.lemmas.Bool.Decides.{leb_tells}
-use Rattle.std.proofs.lemmas.List.{get_or_past, get_or_default}
+use Rattle.std.proofs.lemmas.List.{get_or_default}
 use Rattle.std.specs.Fn.{Called}
 use Rattle.std.specs.Option.{MatchOption, unwrap_or}
 use Rattle.table.specs.Description.{entry}
@@ -21,15 +21,13 @@ module _ {F B : Type 0} (g : Mut F (ℕ × Unit {0}) B) (f : F) (h : ℕ → B) 
   pub filled : (n : ℕ) → IsFromFnResult g f ys n → (k : ℕ) (d : B) → k < n → get_or ys k d ≡ h k
   filled n t k d b = filled_from f refl 0 n t.each k d (omega arith) (omega arith)
 
--- item n of a list that holds at each place below its length what h says of the next number, or what h says of n
-pub numbered_held : (h : ℕ → ℕ) (xs : List ℕ) → ((k : ℕ) → k < length xs → get_or xs k 0 ≡ h (k + 1)) → (n : ℕ) → entry xs n (h n) ≡ h n
+-- item n of a list that holds at each place below `count` what h says of the next number, or what h says of n
+pub numbered_held : (h : ℕ → ℕ) (xs : List ℕ) (count : ℕ) → count ≤ length xs → ((k : ℕ) → k < count → get_or xs k 0 ≡ h (k + 1)) → (n : ℕ) → n ≤ count → entry xs n (h n) ≡ h n
 unfolding entry
-numbered_held h xs e zero = refl
-numbered_held h xs e (suc k) =
-    elim (leb_tells (length xs) k) [
-      | inl l ↦ get_or_past xs k (h (suc k)) l.1
-      | inr l ↦ let q : k + 1 ≡ suc k = omega arith in get_or_default xs k (h (suc k)) 0 l.1 ∙ e k l.1 ∙ ap h q
-    ]
+numbered_held h xs count l e zero b = refl
+numbered_held h xs count l e (suc k) b =
+    let q : k + 1 ≡ suc k = omega arith in
+    get_or_default xs k (h (suc k)) 0 (omega arith) ∙ e k (omega arith) ∙ ap h q
 
 -- the value of an option, or what a call gave where there is none
 pub or_called : {P : Type 0} (o : Option ℕ) (r x : ℕ) → MatchOption o P (λ y. r ≡ y) → (P → r ≡ x) → unwrap_or o x ≡ x → r ≡ x

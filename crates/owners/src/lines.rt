@@ -1,4 +1,4 @@
-ghost use Rattle.std.specs.Prelude.{◌≡◌, ℕ, ◌+◌, ◌<◌, slice_index};
+ghost use Rattle.std.specs.Prelude.{◌≡◌, ℕ, ◌+◌, ◌<◌, ◌≤◌, length, cond, nat_lt, slice_index};
 ghost use Rattle.table.specs.Description.{description};
 ghost use Rattle.owners.specs.Lines.{class_of_line};
 
@@ -22,6 +22,26 @@ pub fn class_of_line(loaded: &Loaded, n: usize) -> usize
     })
 }
 
+// How many lines there are.
+fn line_count(loaded: &Loaded) -> usize
+    ensures value { result ≡ length (description loaded.now).lines }
+    ensures bound { result ≤ 512 }
+{
+    loaded.lines.len()
+}
+
+// The class of the line after the first i of `count` lines, if there is one, else 0: a search goes over all classes
+// and extensions, and is spared where there is no line.
+fn class_after(loaded: &Loaded, count: usize, i: usize) -> usize
+    ensures { result ≡ cond (nat_lt i count) (class_of_line (description loaded.now) (i + 1)) 0 }
+{
+    if i < count {
+        class_of_line(loaded, i + 1)
+    } else {
+        0
+    }
+}
+
 // The classes of a description's lines, each searched once. In a fixed array, as the check allocates nothing and so
 // cannot fail.
 #[derive(Drop)]
@@ -29,7 +49,7 @@ pub(crate) struct LineClasses<'d> {
     pub(crate) loaded: &'d Loaded,
     // of line n at n - 1
     classes: [usize; MOST_LINES],
-    ghost found: { (k : ℕ) → k < 512 → slice_index classes k ≡ class_of_line (description loaded.now) (k + 1) },
+    ghost found: { (k : ℕ) → k < length (description loaded.now).lines → slice_index classes k ≡ class_of_line (description loaded.now) (k + 1) },
 }
 
 impl<'d> LineClasses<'d> {
@@ -37,9 +57,10 @@ impl<'d> LineClasses<'d> {
     pub(crate) fn of(loaded: &'d Loaded) -> LineClasses<'d>
         ensures { result.loaded.now ≡ loaded.now }
     {
+        let count = line_count(loaded);
         LineClasses {
             loaded,
-            classes: from_fn(|i| class_of_line(loaded, i + 1)),
+            classes: from_fn(|i| class_after(loaded, count, i)),
         }
     }
 
@@ -47,6 +68,9 @@ impl<'d> LineClasses<'d> {
     pub(crate) fn class_of(&self, n: usize) -> usize
         ensures { result ≡ class_of_line (description self.now.loaded.now) n }
     {
+        if n > line_count(self.loaded) {
+            return class_of_line(self.loaded, n);
+        }
         numbered(&self.classes, n)
             .copied()
             .unwrap_or_else(|| class_of_line(self.loaded, n))

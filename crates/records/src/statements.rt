@@ -96,6 +96,16 @@ impl TryFrom<Line> for Statement {
     }
 }
 
+impl Line {
+    // The line's fields, by the names that they have at its kind, where there is such a kind. It can't fail: what it
+    // answers has a place for none. Where it matters which number no kind has, there is `TryFrom`.
+    pub fn statement(self) -> Option<Statement>
+        ensures { result ≡ statement self }
+    {
+        Statement::try_from(self).ok()
+    }
+}
+
 // The fields of a read.
 fn read_line(signed: bool, line: Line) -> ReadLine
     ensures { result ≡ read_line signed line }

@@ -117,3 +117,11 @@ impl TryFrom<Node> for Term {
         }
     }
 }
+
+// The node's fields, by the names that they have at its operator, where there is such an operator. It can't fail: what
+// it answers has a place for none. Where it matters which number no operator has, there is `TryFrom`.
+pub fn term_of(node: Node) -> Option<Term>
+    ensures { result ≡ term node }
+{
+    Term::try_from(node).ok()
+}

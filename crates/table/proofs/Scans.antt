@@ -12,6 +12,10 @@ unfolding first_upto
 stays p n x e zero = rw add-zero e
 stays p n x e (suc k) = rw (add-suc, stays p n x e k)
 
+-- a search that found nothing so far, and does not find the next number either
+pub first_passed : (p : ℕ → Bool) (i : ℕ) → first_upto p i ≡ None → false ≡ p (i + 1) → first_upto p (i + 1) ≡ None
+first_passed p i e h = first_more p i ∙ rw (e, ← h)
+
 pub first_found : (p : ℕ → Bool) (i count : ℕ) → i < count → first_upto p i ≡ None → true ≡ p (i + 1) → Some (i + 1) ≡ first_upto p count
 first_found p i count l e h =
     let t : first_upto p (i + 1) ≡ Some (i + 1) = first_more p i ∙ rw (e, ← h) in

@@ -1,5 +1,6 @@
 // The operators on values. A value lies from -2,147,483,648 to 4,294,967,295.
-ghost use Rattle.std.specs.Prelude.{◌≡◌, ℤ, pos, ◌≤◌, ◌||◌, cond, int_lt, unsigned_abs, Ok, Err, IfOk};
+ghost use Rattle.std.specs.Prelude.{◌≡◌, ℤ, pos, ◌≤◌, ◌||◌, cond, int_lt, int_div, unsigned_abs, Ok, Err, IfOk, SomeIff};
+ghost use Rattle.std.specs.Int.{w64, CanDivide};
 ghost use Rattle.rules.specs.declared.faults.ReadingCause.TheVariants.{ZeroDivisor, BadOperand};
 ghost use Rattle.rules.specs.Values.{ranged, flag, is_zero, applied};
 ghost use Rattle.values.specs.Operations.{Checked};
@@ -37,6 +38,13 @@ fn divisor(y: i64) -> Result<i64, ReadingCause>
         return Err(ReadingCause::ZeroDivisor);
     }
     Ok(y)
+}
+
+// The quotient of two numbers, rounded towards 0; none where there is none of 64 bits.
+fn quotient(x: i64, y: i64) -> Option<i64>
+    ensures { SomeIff result (CanDivide w64 x y) (int_div x y) }
+{
+    x.checked_div(y)
 }
 
 // How far to shift: from 0 to 31.
@@ -81,7 +89,7 @@ pub fn apply(operator: Operator, x: i64, y: i64) -> Result<i64, ReadingCause>
 {
     match operator {
         Operator::Multiply => checked(x.checked_mul(y)),
-        Operator::Divide => checked(x.checked_div(divisor(y)?)),
+        Operator::Divide => checked(quotient(x, divisor(y)?)),
         Operator::Remainder => ranged(x.checked_rem(divisor(y)?).unwrap_or(0)),
         Operator::Add => checked(x.checked_add(y)),
         Operator::Subtract => checked(x.checked_sub(y)),

@@ -6,5 +6,5 @@ use Rattle.bits.proofs.put.store.Given as goal
 -- what is left to store, from the byte i on, gives the whole
 abbrev pub invariant-loop-i : goal.invariant-loop-i
 invariant-loop-i l =
-    let at = min l.end (max l.start (l.i * 8)) in
-    with_bits (bits_all 8 l.bytes) at (l.end - at) l.value ≡ with_bits (bits_all 8 l.initial.bytes) l.p l.n l.value
+    (l.at ≡ min l.end (max l.start (l.i * 8)))
+    × ((l.left ≡ l.end - l.at) × (with_bits (bits_all 8 l.bytes) l.at l.left l.value ≡ with_bits (bits_all 8 l.initial.bytes) l.p l.n l.value))

@@ -7,8 +7,8 @@ pub returns-in_ok-divisor-in-Divide : goal.returns-in_ok-divisor-in-Divide
 returns-in_ok-divisor-in-Divide c =
     let g = given _ _ (simp (to_z-of_z c.ranges.y) at c.in_ok-divisor-in-Divide.ensures) in
     let d = ap (λ d. to_z w64 (of_z w64 d)) g.1 ∙ to_z-of_z c.ranges.y in
-    let s = subst (λ d. SomeIff c.checked_div.result (CanDivide w64 c.args.x d) (int_div c.args.x d)) d (simp (to_z-of_z c.ranges.x) at c.checked_div.ensures) in
-    rw c.in-Divide.is (quotient c.args.x c.args.y c.checked_div.result c.ranges.y g.0 s c.checked-in-Divide.ensures)
+    let s = subst (λ d. SomeIff c.quotient.result (CanDivide w64 c.args.x d) (int_div c.args.x d)) d (simp (to_z-of_z c.ranges.x) at c.quotient.ensures) in
+    rw c.in-Divide.is (quotient c.args.x c.args.y c.quotient.result c.ranges.y g.0 s c.checked-in-Divide.ensures)
 
 pub returns-in_ok-divisor-in-Remainder : goal.returns-in_ok-divisor-in-Remainder
 returns-in_ok-divisor-in-Remainder c =
