@@ -48,9 +48,15 @@ def passed():
     return file, stream, items
 
 
+def short():
+    """No bytes at all, and no elements to read."""
+    file = description([plain(1, 1, 1)], lines=[line(UNSIGNED, 1, 0, 2)], nodes=[constant(8), constant(0)])
+    return file, b"", [item(OPEN, 0, 1, 0, 0, 0, 0), item(CLOSE, 0, 1, 0, 0, 0, 0)]
+
+
 def main():
     folder = pathlib.Path(sys.argv[1])
-    for make in (long, passed):
+    for make in (long, passed, short):
         file, stream, items = make()
         name = make.__name__
         (folder / f"{name}.sdt").write_bytes(file)

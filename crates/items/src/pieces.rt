@@ -112,7 +112,7 @@ impl Pieces {
     // Fills the room with the next bytes of the stream, as far as the file has any. A read that a signal interrupts is
     // tried again.
     fn fill(&mut self, file: &mut File) -> io::Result<()> {
-        for _ in 0..self.bytes.len() {
+        for _ in 0..u64::MAX {
             let most = self.most();
             let filled = self.filled.min(most);
             match file.read(&mut self.bytes[filled..most]) {

@@ -1,10 +1,9 @@
-ghost use Rattle.std.specs.Prelude.{◌≡◌, ℕ, ◌+◌, ◌<◌, ◌≤◌, length, cond, nat_lt, slice_index};
+ghost use Rattle.std.specs.Prelude.{◌≡◌, ℕ, ◌+◌, ◌<◌, ◌≤◌, length, slice_index};
 ghost use Rattle.table.specs.Description.{description};
 ghost use Rattle.owners.specs.Lines.{class_of_line};
 
 use blocks::stretches::{in_class, in_extension};
 use passes::first::first;
-use std::array::from_fn;
 use table::loaded::Loaded;
 use table::record::numbered;
 
@@ -30,18 +29,6 @@ fn line_count(loaded: &Loaded) -> usize
     loaded.lines.len()
 }
 
-// The class of the line after the first i of `count` lines, if there is one, else 0: a search goes over all classes
-// and extensions, and is spared where there is no line.
-fn class_after(loaded: &Loaded, count: usize, i: usize) -> usize
-    ensures { result ≡ cond (nat_lt i count) (class_of_line (description loaded.now) (i + 1)) 0 }
-{
-    if i < count {
-        class_of_line(loaded, i + 1)
-    } else {
-        0
-    }
-}
-
 // The classes of a description's lines, each searched once. In a fixed array, as the check allocates nothing and so
 // cannot fail.
 #[derive(Drop)]
@@ -57,11 +44,13 @@ impl<'d> LineClasses<'d> {
     pub(crate) fn of(loaded: &'d Loaded) -> LineClasses<'d>
         ensures { result.loaded.now ≡ loaded.now }
     {
-        let count = line_count(loaded);
-        LineClasses {
-            loaded,
-            classes: from_fn(|i| class_after(loaded, count, i)),
+        // by index, and no further than there are lines: `from_fn` goes over the whole array, by which a check of a small
+        // description takes half as long again
+        let mut classes = [0; MOST_LINES];
+        for i in 0..line_count(loaded) {
+            classes[i] = class_of_line(loaded, i + 1);
         }
+        LineClasses { loaded, classes }
     }
 
     // The class of line n.
