@@ -29,8 +29,8 @@ def long():
 
 
 def passed():
-    """Ten expandable objects of 60,000 bytes, of which the description knows the first: nearly a piece each, and passed over."""
-    count, size = 10, 60000
+    """Ten expandable objects of 65,535 bytes, of which the description knows the first: with their sizes more than a piece each, and passed over."""
+    count, size = 10, 65535
     header = bytes([0x80 | size >> 14, 0x80 | size >> 7 & 0x7F, size & 0x7F])
     file = description(
         [plain(2, 1, 1), plain(1, 2, 1, greatest=65535)],
